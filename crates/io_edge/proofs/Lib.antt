@@ -1,0 +1,4 @@
+mod Bytes
+pub mod Inputs
+pub mod Parts
+pub mod Rises

@@ -1,0 +1,14 @@
+mod Shapes
+mod Bytes
+mod NameSets
+mod Turns
+mod MoreNodes
+mod Room
+mod Passed
+mod NodesKept
+mod EntriesKept
+mod DocumentsKept
+mod LowKept
+mod JsonKept
+mod Samples
+mod SampleDocuments

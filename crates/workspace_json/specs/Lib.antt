@@ -1,0 +1,9 @@
+pub mod Step
+pub mod Json
+pub mod Names
+pub mod NodeForms
+pub mod Entries
+pub mod Reading
+pub mod Documents
+pub mod Places
+pub mod Replies

@@ -1,0 +1,91 @@
+-- Which document some bytes are, or which form fault they have: the first failure in the order decides.
+use Rattle.std.specs.Prelude.{ℕ, List, [], ◌∷◌, ◌++◌, codes, Bool, true, false, ◌&&◌, ◌==◌, if◌then◌else◌, Option, Some, None, option_and_then, Result, Ok, Err}
+use Rattle.std.specs.List.{list_all, slice_get}
+use Rattle.serde_json.specs.Data.{Data}
+use Rattle.serde_json.specs.Find.{get}
+use Rattle.diagram_terms.specs.declared.node.Node.{Node}
+use Rattle.diagram_terms.specs.declared.node.Node.TheVariants as node
+use Rattle.diagram_terms.specs.Nodes.{sorts_of}
+use Rattle.workspace_json.specs.declared.fault.Field.{Field}
+use Rattle.workspace_json.specs.declared.fault.Field.TheVariants as field
+use Rattle.workspace_json.specs.declared.fault.FormFault.{FormFault}
+use Rattle.workspace_json.specs.declared.fault.FormFault.TheVariants as fault
+use Rattle.workspace_json.specs.declared.document.Document.{Document}
+use Rattle.workspace_json.specs.Step.{◌>>=◌, when, or_fault}
+use Rattle.workspace_json.specs.Json.{json_of, has_keys, whole_of, list_at}
+use Rattle.workspace_json.specs.Names.{is_among}
+use Rattle.workspace_json.specs.NodeForms.{nodes_in}
+use Rattle.workspace_json.specs.Entries.{generator_names, diagram_names, generators_in, diagrams_in, maps_in}
+
+-- a fault of a field as a whole
+abbrev pub field_fault : Field → FormFault
+field_fault f = fault.Form f None
+
+-- the keys of a document
+abbrev pub document_keys : List (List ℕ)
+document_keys = codes "diagrams" ∷ codes "format" ∷ codes "generators" ∷ codes "maps" ∷ codes "nodes" ∷ []
+
+-- a number that is there and is 1
+abbrev pub is_one : Option ℕ → Bool
+is_one None = false
+is_one (Some n) = n == 1
+
+-- the document with these nodes: its generators, then its diagrams, then its maps
+unfoldable pub entries_of : List Node → Data → Result Document FormFault
+entries_of nodes d = do
+  generators ← list_at (field_fault field.Generators) (codes "generators") d
+      >>= generators_in (sorts_of nodes) (is_among [])
+  diagrams ← list_at (field_fault field.Diagrams) (codes "diagrams") d
+      >>= diagrams_in (sorts_of nodes) (is_among (generator_names generators))
+  maps ← list_at (field_fault field.Maps) (codes "maps") d
+      >>= maps_in (sorts_of nodes) (is_among (generator_names generators ++ diagram_names diagrams))
+  Ok (record { generators = generators; diagrams = diagrams; maps = maps; nodes = nodes })
+
+-- the document that a value is: its keys, then its format, then its nodes, then the entries
+unfoldable pub document_of : Data → Result Document FormFault
+document_of d = do
+  keyed ← when (has_keys document_keys d) (field_fault field.Document)
+  versioned ← when (is_one (option_and_then whole_of (get (codes "format") d))) (field_fault field.Format)
+  nodes ← list_at (field_fault field.Nodes) (codes "nodes") d >>= nodes_in
+  entries_of nodes d
+
+-- the document that the bytes are, with the fault of each text that is none
+abbrev pub exact_document : List ℕ → Result Document FormFault
+exact_document bytes = or_fault fault.NotJson (json_of bytes) >>= document_of
+
+-- ---- documents of dimension 0 and 1
+
+-- what stands at a place is a label
+abbrev pub is_label : Option Node → Bool
+is_label None = false
+is_label (Some (node.Label x)) = true
+is_label (Some (node.Diagram rs ss fs bs)) = false
+is_label (Some (node.Labels x y)) = false
+is_label (Some (node.Arrow hs rs ss)) = false
+
+-- a label, a pair of labels, or a diagram whose regular slices are labels
+abbrev pub is_low_node : List Node → Node → Bool
+is_low_node nodes (node.Label x) = true
+is_low_node nodes (node.Diagram rs ss fs bs) = list_all (λ i. is_label (slice_get nodes i)) rs
+is_low_node nodes (node.Labels x y) = true
+is_low_node nodes (node.Arrow hs rs ss) = false
+
+-- an empty list
+abbrev pub is_nothing : {A : Type 0} → List A → Bool
+is_nothing [] = true
+is_nothing (x ∷ xs) = false
+
+-- no generators, no maps, and only such nodes
+abbrev pub is_low : Document → Bool
+is_low document =
+    is_nothing document.generators && is_nothing document.maps && list_all (is_low_node document.nodes) document.nodes
+
+-- Every other JSON text comes later, whatever its fault is.
+abbrev pub later : Result Document FormFault → Result Document FormFault
+later (Ok document) = if is_low document then Ok document else Err fault.Later
+later (Err fault.NotJson) = Err fault.NotJson
+later (Err e) = Err fault.Later
+
+-- the document of dimension 0 and 1 that the bytes are
+abbrev pub low_document : List ℕ → Result Document FormFault
+low_document bytes = later (exact_document bytes)

@@ -1,0 +1,85 @@
+ghost use Rattle.std.specs.Prelude.{◌≡◌, ◌≢◌, IfOk};
+ghost use Rattle.serde_json.specs.View.{view};
+ghost use Rattle.workspace_json.specs.Replies.{reply_data, text_of_reply, fault_data, text_of_fault, word_of};
+
+use crate::fault::{Field, FormFault};
+use crate::reply::Reply;
+use crate::texts::place_text;
+use serde_json::{Value, json};
+use std::alloc::{AllocError, Global};
+
+fn reply_value(alloc: Global, reply: &Reply) -> Result<Value, AllocError>
+    ensures { IfOk result (λ value. view value ≡ reply_data reply.now) }
+{
+    match reply {
+        Reply::Look {
+            dim,
+            length,
+            name,
+            at: None,
+        } => json!(in alloc; {
+            "dim": *dim as u64, "length": *length as u64, "name": name.as_str(), "ok": "look"
+        }),
+        Reply::Look {
+            dim,
+            length,
+            name,
+            at: Some(place),
+        } => {
+            let at = place_text(alloc, place)?;
+            json!(in alloc; {
+                "at": at.as_str(), "dim": *dim as u64, "length": *length as u64,
+                "name": name.as_str(), "no": "look"
+            })
+        }
+    }
+}
+
+/// The line of a reply, without its newline.
+pub fn reply_text(alloc: Global, reply: &Reply) -> Result<Vec<u8>, AllocError>
+    ensures { IfOk result (λ text. text.items ≡ text_of_reply reply.now) }
+{
+    reply_value(alloc, reply)?.to_vec(alloc)
+}
+
+fn field_word(field: Field) -> &'static str
+    ensures { result.now ≡ word_of field }
+{
+    match field {
+        Field::Document => "document",
+        Field::Format => "format",
+        Field::Nodes => "nodes",
+        Field::Generators => "generators",
+        Field::Diagrams => "diagrams",
+        Field::Maps => "maps",
+    }
+}
+
+fn fault_value(alloc: Global, fault: FormFault) -> Result<Value, AllocError>
+    requires { fault ≢ FormFault.NoMemory }
+    ensures { IfOk result (λ value. view value ≡ fault_data fault) }
+{
+    match fault {
+        FormFault::NotJson => json!(in alloc; {"refused": "NotJson"}),
+        FormFault::Later => json!(in alloc; {"refused": "Later"}),
+        FormFault::Form { field, entry: None } =>
+            json!(in alloc; {"field": field_word(field), "refused": "Form"}),
+        FormFault::Form {
+            field,
+            entry: Some(entry),
+        } =>
+            json!(in alloc; {"entry": entry as u64, "field": field_word(field), "refused": "Form"}),
+        FormFault::Shape(node) => json!(in alloc; {"node": node as u64, "refused": "Shape"}),
+        FormFault::Early(node) => json!(in alloc; {"node": node as u64, "refused": "Early"}),
+        FormFault::Label(node) => json!(in alloc; {"node": node as u64, "refused": "Label"}),
+        FormFault::NoMemory => unreachable!(),
+    }
+}
+
+/// The line of a form fault, without its newline.
+pub fn form_text(alloc: Global, fault: FormFault) -> Result<Vec<u8>, AllocError>
+    requires { fault ≢ FormFault.NoMemory }
+    ensures { IfOk result (λ text. text.items ≡ text_of_fault fault) }
+{
+    fault_value(alloc, fault)?.to_vec(alloc)
+}
