@@ -1,0 +1,4 @@
+mod LowNodes
+mod Looks
+mod Lines
+mod Runs

@@ -1,0 +1,68 @@
+use Rattle.std.proofs.Common.{◌≡◌, ◌≤◌, ◌<◌, ◌∙◌, List, length, get_or, sym, ap, true≢false, arith}
+use Rattle.diagram_terms.specs.declared.node.Node.{Node}
+use Rattle.workspace_json.specs.declared.document.DiagramEntry.{DiagramEntry}
+use Rattle.io_edge.proofs.Parts.{ended, cut_off, stopped, one_more}
+use Rattle.hom_cli.specs.declared.status.Status.TheVariants as status
+use Rattle.hom_cli.specs.Full.{look_reply}
+use Rattle.hom_cli.proofs.Lines.{entries_status, on_err, prefix_of_run, whole_of_run, next_line, more_status, none_left, all_written, status_is}
+use Rattle.hom_cli.proofs.look.write_looks.Goals as goal
+use Rattle.hom_cli.proofs.look.write_looks.Goals.{then-not-is_yes, else-not-is_yes}
+
+pub returns-in_err-reply-clause-err : goal.returns-in_err-reply-clause-err
+returns-in_err-reply-clause-err g c =
+    let d = c.args.document.now in
+    on_err _ (prefix_of_run d.nodes d.diagrams _ _ (stopped _ _ _ _ c.loop-entry.invariant.under_way))
+
+pub returns-in_err-reply_text-clause-err : goal.returns-in_err-reply_text-clause-err
+returns-in_err-reply_text-clause-err g c =
+    let d = c.args.document.now in
+    on_err _ (prefix_of_run d.nodes d.diagrams _ _ (stopped _ _ _ _ c.loop-entry.invariant.under_way))
+
+pub returns-in_err-write_line-clause-err : goal.returns-in_err-write_line-clause-err
+returns-in_err-write_line-clause-err g c =
+    let d = c.args.document.now in
+    let i = c.loop-entry.entry-index in
+    let entry = c.entry-item.result in
+    let items = c.as_slice-entry-items.ensures in
+    let within : i < length d.diagrams = omega (arith, ap length items) in
+    let is : entry ≡ get_or d.diagrams i entry = c.entry-item.is ∙ ap (λ (es : List DiagramEntry). get_or es i entry) items in
+    let reply_is : c.in_ok-reply.reply ≡ look_reply d.nodes entry = c.in_ok-reply.ensures ∙ ap (λ (ns : List Node). look_reply ns entry) c.as_slice-nodes.ensures in
+    let so_far = next_line d.nodes d.diagrams i entry within is _ _ c.in_ok-reply_text.field-0.items c.in_ok-reply.reply c.in_ok-reply_text.ensures reply_is c.loop-entry.invariant.under_way in
+    on_err _ (prefix_of_run d.nodes d.diagrams _ _ (cut_off _ _ _ _ _ _ c.in_err-write_line.ensures.err so_far))
+
+pub loop-entry-preserved : goal.loop-entry-preserved
+loop-entry-preserved g c =
+    let d = c.args.document.now in
+    let i = c.loop-entry.entry-index in
+    let entry = c.entry-item.result in
+    let items = c.as_slice-entry-items.ensures in
+    let within : i < length d.diagrams = omega (arith, ap length items) in
+    let is : entry ≡ get_or d.diagrams i entry = c.entry-item.is ∙ ap (λ (es : List DiagramEntry). get_or es i entry) items in
+    let reply_is : c.in_ok-reply.reply ≡ look_reply d.nodes entry = c.in_ok-reply.ensures ∙ ap (λ (ns : List Node). look_reply ns entry) c.as_slice-nodes.ensures in
+    let so_far = next_line d.nodes d.diagrams i entry within is _ _ c.in_ok-reply_text.field-0.items c.in_ok-reply.reply c.in_ok-reply_text.ensures reply_is c.loop-entry.invariant.under_way in
+    record {
+      under_way = one_more _ _ _ _ _ _ c.in_ok-write_line.ensures.ok so_far;
+      status = elim c.if-not-is_yes.branch [
+        | then-not-is_yes w ↦ more_status d.nodes d.diagrams i entry within is c.loop-entry.status c.if-not-is_yes.status _ c.in_ok-reply.reply reply_is
+            (λ p. absurd (true≢false (sym p ∙ sym c.is_yes.ensures ∙ w.if-not-is_yes.true)))
+            (λ p. w.status-is)
+            c.loop-entry.invariant.status
+        | else-not-is_yes w ↦ more_status d.nodes d.diagrams i entry within is c.loop-entry.status c.if-not-is_yes.status _ c.in_ok-reply.reply reply_is
+            (λ p. w.status-is)
+            (λ p. absurd (true≢false (sym w.if-not-is_yes.false ∙ c.is_yes.ensures ∙ p)))
+            c.loop-entry.invariant.status
+      ];
+      later = omega (arith, c.in_ok-write_line.ensures.later);
+    }
+
+pub returns-clause-ok : goal.returns-clause-ok
+returns-clause-ok g c =
+    let d = c.args.document.now in
+    let past : length d.diagrams ≤ c.loop-entry.entry-index = omega (arith, ap length c.as_slice-entry-items.ensures) in
+    none_left d.nodes d.diagrams c.loop-entry.entry-index c.loop-entry.status _ past c.loop-entry.invariant.status ∙ sym (status_is d.nodes d.diagrams)
+
+pub returns-clause-wrote : goal.returns-clause-wrote
+returns-clause-wrote g c =
+    let d = c.args.document.now in
+    let past : length d.diagrams ≤ c.loop-entry.entry-index = omega (arith, ap length c.as_slice-entry-items.ensures) in
+    whole_of_run d.nodes d.diagrams _ _ (ended _ _ _ (all_written d.nodes d.diagrams c.loop-entry.entry-index _ _ past c.loop-entry.invariant.under_way))

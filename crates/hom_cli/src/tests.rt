@@ -1,0 +1,151 @@
+use crate::program::run;
+use crate::status::Status;
+use io_edge::{MemSink, MemSource, SureSink, SureSource};
+use std::alloc::{AllocError, Global};
+use std::test::Fail;
+
+const ONE_ARROW: &str =
+    "{\"diagrams\":[{\"name\":\"F\",\"root\":3}],\"format\":1,\"generators\":[],\"maps\":[],\"nodes\":[{\"label\":[0,0]},{\"label\":[1,1]},{\"labels\":[[0,0],[1,1]]},{\"bwds\":[2],\"fwds\":[2],\"regs\":[0,0],\"sings\":[1]}]}";
+
+const ONE_ARROW_LINE: &str = "{\"dim\":1,\"length\":1,\"name\":\"F\",\"ok\":\"look\"}\n";
+
+fn words_of(alloc: Global, line: &str) -> Result<Vec<String>, AllocError> {
+    let mut words = Vec::new(alloc);
+    for word in line.split(' ').filter(|word| !word.is_empty()) {
+        words.push(String::from_str(alloc, word)?)?;
+    }
+    Ok(words)
+}
+
+#[test]
+fn looks_at_documents(rt: HostRuntime) -> Result<(), Fail> {
+    let alloc = rt.alloc();
+    let cases = [
+        ("look", ONE_ARROW, Status::Done, ONE_ARROW_LINE),
+        (
+            "look",
+            "{\"diagrams\":[{\"name\":\"F\",\"root\"",
+            Status::Form,
+            "{\"refused\":\"NotJson\"}\n",
+        ),
+        (
+            "look",
+            "{\"diagrams\":[{\"name\":\"X\",\"root\":0}],\"format\":1,\"generators\":[],\"maps\":[],\"nodes\":[{\"label\":[0,0]}]}",
+            Status::Done,
+            "{\"dim\":0,\"length\":0,\"name\":\"X\",\"ok\":\"look\"}\n",
+        ),
+        (
+            "look",
+            "{\"diagrams\":[{\"name\":\"G\",\"root\":3}],\"format\":1,\"generators\":[],\"maps\":[],\"nodes\":[{\"label\":[0,0]},{\"label\":[1,1]},{\"labels\":[[1,1],[0,0]]},{\"bwds\":[2],\"fwds\":[2],\"regs\":[1,1],\"sings\":[0]}]}",
+            Status::Refused,
+            "{\"at\":\"f0 ends\",\"dim\":1,\"length\":1,\"name\":\"G\",\"no\":\"look\"}\n",
+        ),
+        (
+            "look",
+            "{\"diagrams\":[{\"name\":\"D\",\"root\":10}],\"format\":1,\"generators\":[],\"maps\":[],\"nodes\":[{\"label\":[0,0]},{\"label\":[1,1]},{\"label\":[2,2]},{\"labels\":[[0,0],[1,1]]},{\"bwds\":[3],\"fwds\":[3],\"regs\":[0,0],\"sings\":[1]},{\"labels\":[[0,0],[2,2]]},{\"bwds\":[5],\"fwds\":[5],\"regs\":[0,0],\"sings\":[2]},{\"labels\":[[0,0],[0,0]]},{\"labels\":[[2,2],[1,1]]},{\"heights\":[0],\"regs\":[7,7],\"sings\":[8]},{\"bwds\":[9],\"fwds\":[9],\"regs\":[6,6],\"sings\":[4]}]}",
+            Status::Form,
+            "{\"refused\":\"Later\"}\n",
+        ),
+        (
+            "look",
+            "{\"diagrams\":[{\"name\":\"g\",\"root\":4},{\"name\":\"i\",\"root\":5},{\"name\":\"h\",\"root\":6}],\"format\":1,\"generators\":[],\"maps\":[],\"nodes\":[{\"label\":[0,0]},{\"label\":[1,1]},{\"labels\":[[0,0],[1,1]]},{\"labels\":[[0,0],[0,0]]},{\"bwds\":[2,3],\"fwds\":[2,2],\"regs\":[0,0,0],\"sings\":[1,1]},{\"bwds\":[],\"fwds\":[],\"regs\":[1],\"sings\":[]},{\"bwds\":[3],\"fwds\":[2],\"regs\":[0,0],\"sings\":[1]}]}",
+            Status::Refused,
+            "{\"at\":\"b1 ends\",\"dim\":1,\"length\":2,\"name\":\"g\",\"no\":\"look\"}\n{\"dim\":1,\"length\":0,\"name\":\"i\",\"ok\":\"look\"}\n{\"at\":\"b0 ends\",\"dim\":1,\"length\":1,\"name\":\"h\",\"no\":\"look\"}\n",
+        ),
+        ("", ONE_ARROW, Status::Usage, ""),
+        ("demo 0", ONE_ARROW, Status::Usage, ""),
+        ("slice T s01", ONE_ARROW, Status::Usage, ""),
+        ("look look", ONE_ARROW, Status::Usage, ""),
+        ("Look", ONE_ARROW, Status::Usage, ""),
+    ];
+    for (line, text, status, want) in cases {
+        let words = words_of(alloc, line)?;
+        let mut input = SureSource::new(Vec::from_slice(alloc, text.as_bytes())?);
+        let mut output = SureSink::new(alloc);
+        assert_eq!(rt;
+            run(alloc, words.as_slice(), &mut input, &mut output),
+            status,
+            "{line} {text}"
+        );
+        assert!(rt; output.written() == want.as_bytes(), "{line} {text}");
+    }
+    Ok(())
+}
+
+/// A source that gives 7 bytes a call and fails at `read_fails`, and a sink that takes 16 bytes a
+/// call and fails at `write_fails`.
+fn run_on(
+    alloc: Global,
+    read_fails: usize,
+    write_fails: usize,
+) -> Result<(Status, Vec<u8>), AllocError> {
+    let words = words_of(alloc, "look")?;
+    let mut input = MemSource::new(
+        Vec::from_slice(alloc, ONE_ARROW.as_bytes())?,
+        7,
+        vec![in alloc; read_fails]?,
+    );
+    let mut output = MemSink::new(alloc, 16, vec![in alloc; write_fails]?);
+    let status = run(alloc, words.as_slice(), &mut input, &mut output);
+    Ok((status, Vec::from_slice(alloc, output.written())?))
+}
+
+#[test]
+fn stops_short(rt: HostRuntime) -> Result<(), Fail> {
+    let alloc = rt.alloc();
+    let line = ONE_ARROW_LINE.as_bytes();
+    let cases = [
+        (1000, 1000, Status::Done, line.len()),
+        (0, 1000, Status::ReadFault, 0),
+        (3, 0, Status::ReadFault, 0),
+        (1000, 0, Status::WriteFault, 0),
+        (1000, 2, Status::WriteFault, 32),
+    ];
+    for (read_fails, write_fails, status, count) in cases {
+        let (answer, written) = run_on(alloc, read_fails, write_fails)?;
+        assert_eq!(rt; answer, status, "{read_fails} {write_fails}");
+        assert_eq!(rt; written.len(), count, "{read_fails} {write_fails}");
+        assert!(rt;
+            line.starts_with(written.as_slice()),
+            "{read_fails} {write_fails}"
+        );
+    }
+    Ok(())
+}
+
+#[test]
+fn takes_64_mebibytes(rt: HostRuntime) -> Result<(), Fail> {
+    let alloc = rt.alloc();
+    let words = words_of(alloc, "look")?;
+    let cases = [
+        (67_108_864usize, Status::Form, "{\"refused\":\"NotJson\"}\n"),
+        (67_108_865, Status::TooLong, ""),
+    ];
+    for (length, status, want) in cases {
+        let mut input = SureSource::new(vec![in alloc; b' '; length]?);
+        let mut output = SureSink::new(alloc);
+        assert_eq!(rt;
+            run(alloc, words.as_slice(), &mut input, &mut output),
+            status
+        );
+        assert!(rt; output.written() == want.as_bytes());
+    }
+    Ok(())
+}
+
+#[test]
+fn numbers_statuses(rt: HostRuntime) {
+    let statuses = [
+        Status::Done,
+        Status::Refused,
+        Status::Usage,
+        Status::Form,
+        Status::ReadFault,
+        Status::WriteFault,
+        Status::NoMemory,
+        Status::TooLong,
+    ];
+    for (place, status) in statuses.iter().enumerate() {
+        assert_eq!(rt; usize::from(status.number()), place);
+    }
+}
