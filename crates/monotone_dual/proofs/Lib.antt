@@ -1,0 +1,3 @@
+pub mod LawProofs
+pub mod Scans
+pub mod Skips

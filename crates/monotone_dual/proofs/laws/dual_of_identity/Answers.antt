@@ -1,0 +1,5 @@
+use Rattle.monotone_dual.proofs.LawProofs.{dual_of_identity}
+use Rattle.monotone_dual.proofs.laws.dual_of_identity.Goals as goal
+
+pub returns : goal.returns
+returns c = dual_of_identity

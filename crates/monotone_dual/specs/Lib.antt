@@ -1,0 +1,3 @@
+pub mod Injections
+pub mod Laws
+pub mod Refusals
