@@ -1,0 +1,233 @@
+-- What the tables say of an id, and what `put_arrow` and `put_diagram` do to them.
+use Rattle.std.proofs.Common.{◌≡◌, ◌≢◌, ℕ, ◌<◌, ◌≤◌, ◌+◌, Bool, true, false, List, [], ◌∷◌, ◌++◌, length, get_or, slice_get, Some, refl, sym, ap, subst, ◌∙◌, arith, inl, inr, if◌then◌else◌}
+use Rattle.std.specs.List.{list_any}
+use Rattle.std.proofs.lemmas.List.{length_push}
+use Rattle.diagram_terms.specs.Tree.{Tree, nil}
+use Rattle.diagram_terms.specs.Dimension.{IsDiagramTree, IsArrowTree}
+use Rattle.hashcons.specs.declared.node.ArrowNode.{ArrowNode}
+use Rattle.hashcons.specs.declared.node.DiagramNode.{DiagramNode}
+use Rattle.hashcons.specs.Contents.{Contents, diagram_at, arrow_at, Grows, IsStore, AddsArrow, AddsDiagram, with_arrow, with_diagram}
+use Rattle.hashcons.specs.Nodes.{tree_of_arrow, tree_of_diagram, IsArrowOver, IsDiagramOver, described_arrow, described_diagram, HasArrowsOf, HasChildrenOf}
+use Rattle.hashcons.specs.Tables.{trees_from, AreGrounded, arrow_trees, diagram_trees, contents_of, AreTables}
+use Rattle.hashcons.proofs.TableLemmas.{AgreeBelow, length-trees_from, trees_from-push, trees_from-same, tree-reads, tree-new, AreGrounded-at, AreGrounded-push, AreGrounded-wider, slice_get-below, at-push}
+use Rattle.hashcons.proofs.NodeLemmas.{arrow_eq, diagram_eq, arrow-alike, diagram-alike, arrow-told, diagram-told, arrow-local, diagram-local, arrow-wider, diagram-wider, diagram-arrows, diagram-more_arrows}
+use Rattle.hashcons.proofs.ContentsLemmas.{Grows-refl, Grows-push_arrow, Grows-push_diagram, IsStore-push_arrow, IsStore-push_diagram}
+use Rattle.hashcons.proofs.ChildLemmas.{arrow-among, slices-among, legs-among, arrow-low, diagram-low}
+
+pub length-arrow_trees : (arrows : List ArrowNode) → length (arrow_trees arrows) ≡ length arrows
+length-arrow_trees arrows = omega (arith, length-trees_from tree_of_arrow [] arrows)
+
+pub length-diagram_trees : (arrows : List ArrowNode) (diagrams : List DiagramNode)
+    → length (diagram_trees arrows diagrams) ≡ length diagrams
+length-diagram_trees arrows diagrams = omega (arith, length-trees_from (tree_of_diagram (arrow_trees arrows)) [] diagrams)
+
+-- the node k stands at i: it describes the tree of i, and its children are of the store
+pub record ReadsArrow (c : Contents) (i : ℕ) (k : ArrowNode) : Type 0 where
+  pub tree : described_arrow c k ≡ arrow_at c i
+  pub children : HasArrowsOf c k
+
+pub record ReadsDiagram (c : Contents) (i : ℕ) (k : DiagramNode) : Type 0 where
+  pub tree : described_diagram c k ≡ diagram_at c i
+  pub children : HasChildrenOf c k
+
+module _ (arrows : List ArrowNode) (diagrams : List DiagramNode) (tables : AreTables arrows diagrams) where
+  pub reads_arrow : (i : ℕ) (k : ArrowNode) → slice_get arrows i ≡ Some k → ReadsArrow (contents_of arrows diagrams) i k
+  reads_arrow i k at =
+      let l = length-arrow_trees arrows in
+      let b = slice_get-below arrows i k at in
+      record {
+        tree = sym (tree-reads tree_of_arrow IsArrowOver arrow-local arrows i k tables.arrows_grounded at);
+        children = arrow-wider (0 + i) (length (arrow_trees arrows)) k (omega arith)
+            (AreGrounded-at IsArrowOver 0 arrows i k tables.arrows_grounded at);
+      }
+
+  pub reads_diagram : (i : ℕ) (k : DiagramNode) → slice_get diagrams i ≡ Some k
+      → ReadsDiagram (contents_of arrows diagrams) i k
+  reads_diagram i k at =
+      let us = arrow_trees arrows in
+      let over = IsDiagramOver (length us) in
+      let l = length-diagram_trees arrows diagrams in
+      let b = slice_get-below diagrams i k at in
+      record {
+        tree = sym (tree-reads (tree_of_diagram us) over (diagram-local us) diagrams i k tables.diagrams_grounded at);
+        children = diagram-wider (length us) (0 + i) (length (diagram_trees arrows diagrams)) k (omega arith)
+            (AreGrounded-at over 0 diagrams i k tables.diagrams_grounded at);
+      }
+
+-- ---- one more node
+
+-- the tree stands at i in the list
+pub record Holds (ts : List Tree) (i : ℕ) (t : Tree) : Type 0 where
+  pub of_list : i < length ts
+  pub tree : get_or ts i nil ≡ t
+
+-- a node of a table that is equal to n has the tree of n
+holds-equal : {N : Type 0} (f : List Tree → N → Tree) (B : ℕ → N → Type 0)
+    (local : (k : ℕ) (ts us : List Tree) (n : N) → B k n → AgreeBelow k ts us → f ts n ≡ f us n)
+    (eq : N → N → Bool) (alike : (ts : List Tree) (m n : N) → eq m n ≡ true → f ts m ≡ f ts n) (ns : List N) (n : N)
+    → AreGrounded B 0 ns
+    → (i : ℕ) (k : N) → slice_get ns i ≡ Some k → eq n k ≡ true → Holds (trees_from f [] ns) i (f (trees_from f [] ns) n)
+holds-equal f B local eq alike ns n g i k at same =
+    let l = length-trees_from f [] ns in
+    let b = slice_get-below ns i k at in
+    record {
+      of_list = omega arith;
+      tree = tree-reads f B local ns i k g at ∙ sym (alike (trees_from f [] ns) n k same);
+    }
+
+-- the tables after a node was put, and where it stands
+pub record PutsArrow (before after : List ArrowNode) (diagrams : List DiagramNode) (n : ArrowNode) : Type 0 where
+  pub tables : AreTables after diagrams
+  pub grows : Grows (contents_of before diagrams) (contents_of after diagrams)
+  pub adds : AddsArrow (contents_of before diagrams) (contents_of after diagrams) (tree_of_arrow (arrow_trees before) n)
+  pub held : (i : ℕ) (k : ArrowNode) → slice_get after i ≡ Some k → arrow_eq n k ≡ true
+      → Holds (arrow_trees after) i (tree_of_arrow (arrow_trees before) n)
+
+module _ (before : List ArrowNode) (diagrams : List DiagramNode) (n : ArrowNode) (tables : AreTables before diagrams)
+    (children : IsArrowOver (length (arrow_trees before)) n)
+    (shape : IsArrowTree (tree_of_arrow (arrow_trees before) n)) where
+  arrow_there : PutsArrow before before diagrams n
+  arrow_there = record {
+    tables = tables;
+    grows = Grows-refl (contents_of before diagrams);
+    adds = inl refl;
+    held = holds-equal tree_of_arrow IsArrowOver arrow-local arrow_eq arrow-alike before n tables.arrows_grounded;
+  }
+
+  arrow_absent : list_any (arrow_eq n) before ≡ false → PutsArrow before (before ++ n ∷ []) diagrams n
+  arrow_absent none =
+      let ts = arrow_trees before in
+      let t = tree_of_arrow ts n in
+      let after = before ++ n ∷ [] in
+      let pushed : arrow_trees after ≡ ts ++ t ∷ [] = trees_from-push tree_of_arrow [] before n in
+      let long : length ts ≡ 0 + length before = length-trees_from tree_of_arrow [] before in
+      let grounded : AreGrounded IsArrowOver 0 after =
+      AreGrounded-push IsArrowOver 0 before n tables.arrows_grounded (subst (λ k. IsArrowOver k n) long children)
+      in
+      let among = arrow-among ts n children in
+      let low = arrow-low ts t shape among tables.store.arrow_dims in
+      let new : (i : ℕ) → i < length ts → get_or ts i nil ≢ t =
+      tree-new tree_of_arrow IsArrowOver arrow-local arrow_eq before n
+      (λ m over same. arrow-told ts tables.store.arrows_once n m children over same)
+      arrow-wider tables.arrows_grounded none
+      in
+      let agree : AgreeBelow (length ts) ts (arrow_trees after) =
+      λ j h. sym (ap (λ us. get_or us j nil) pushed ∙ at-push ts t j h)
+      in
+      let same : diagram_trees before diagrams ≡ diagram_trees after diagrams =
+      trees_from-same (tree_of_diagram ts) (tree_of_diagram (arrow_trees after)) (IsDiagramOver (length ts))
+      (diagram-arrows (length ts) ts (arrow_trees after) agree) 0 [] diagrams tables.diagrams_grounded
+      in
+      let wide : length ts ≤ length (arrow_trees after) =
+      let k = length_push ts t in let e = ap length pushed in omega arith
+      in
+      let whole : with_arrow (contents_of before diagrams) t ≡ contents_of after diagrams =
+      λ i. record { diagrams = same i; arrows = sym pushed i }
+      in
+      let held = holds-equal tree_of_arrow IsArrowOver arrow-local arrow_eq arrow-alike after n grounded in
+      record {
+        tables = record {
+          arrows_grounded = grounded;
+          diagrams_grounded =
+              AreGrounded-wider (IsDiagramOver (length ts)) (IsDiagramOver (length (arrow_trees after)))
+              (diagram-more_arrows (length ts) (length (arrow_trees after)) wide) 0 diagrams tables.diagrams_grounded;
+          store = subst IsStore whole (IsStore-push_arrow (contents_of before diagrams) t tables.store shape among low new);
+        };
+        grows = subst (Grows (contents_of before diagrams)) whole (Grows-push_arrow (contents_of before diagrams) t);
+        adds = inr (sym whole);
+        held = λ i k at is.
+            let h = held i k at is in
+            record {
+              of_list = h.of_list;
+              tree = h.tree ∙ sym
+                  (arrow-local (length ts) ts (arrow_trees after) n children agree);
+            };
+      }
+
+  pub puts_arrow : (after : List ArrowNode) → after ≡ (if list_any (arrow_eq n) before then before else before ++ n ∷ [])
+      → PutsArrow before after diagrams n
+  puts_arrow after keys = by (list_any (arrow_eq n) before) refl
+    where
+      by : (b : Bool) → list_any (arrow_eq n) before ≡ b → PutsArrow before after diagrams n
+      by true e = subst (λ ns. PutsArrow before ns diagrams n)
+          (sym (keys ∙ ap (λ b. if b then before else before ++ n ∷ []) e)) arrow_there
+      by false e = subst (λ ns. PutsArrow before ns diagrams n)
+          (sym (keys ∙ ap (λ b. if b then before else before ++ n ∷ []) e)) (arrow_absent e)
+
+pub record PutsDiagram (arrows : List ArrowNode) (before after : List DiagramNode) (n : DiagramNode) : Type 0 where
+  pub tables : AreTables arrows after
+  pub grows : Grows (contents_of arrows before) (contents_of arrows after)
+  pub adds : AddsDiagram (contents_of arrows before) (contents_of arrows after)
+      (tree_of_diagram (arrow_trees arrows) (diagram_trees arrows before) n)
+  pub held : (i : ℕ) (k : DiagramNode) → slice_get after i ≡ Some k → diagram_eq n k ≡ true
+      → Holds (diagram_trees arrows after) i (tree_of_diagram (arrow_trees arrows) (diagram_trees arrows before) n)
+
+module _ (arrows : List ArrowNode) (before : List DiagramNode) (n : DiagramNode) (tables : AreTables arrows before)
+    (children : IsDiagramOver (length (arrow_trees arrows)) (length (diagram_trees arrows before)) n)
+    (shape : IsDiagramTree (tree_of_diagram (arrow_trees arrows) (diagram_trees arrows before) n)) where
+  diagram_there : PutsDiagram arrows before before n
+  diagram_there = record {
+    tables = tables;
+    grows = Grows-refl (contents_of arrows before);
+    adds = inl refl;
+    held =
+        holds-equal (tree_of_diagram (arrow_trees arrows)) (IsDiagramOver (length (arrow_trees arrows)))
+        (diagram-local (arrow_trees arrows))
+        diagram_eq (diagram-alike (arrow_trees arrows)) before n tables.diagrams_grounded;
+  }
+
+  diagram_absent : list_any (diagram_eq n) before ≡ false → PutsDiagram arrows before (before ++ n ∷ []) n
+  diagram_absent none =
+      let us = arrow_trees arrows in
+      let f = tree_of_diagram us in
+      let over = IsDiagramOver (length us) in
+      let ts = diagram_trees arrows before in
+      let t = f ts n in
+      let after = before ++ n ∷ [] in
+      let pushed : diagram_trees arrows after ≡ ts ++ t ∷ [] = trees_from-push f [] before n in
+      let long : length ts ≡ 0 + length before = length-trees_from f [] before in
+      let grounded : AreGrounded over 0 after =
+      AreGrounded-push over 0 before n tables.diagrams_grounded (subst (λ k. over k n) long children)
+      in
+      let slices = slices-among us ts n children in
+      let legs = legs-among us ts n children in
+      let low = diagram-low ts t shape slices tables.store.diagram_dims in
+      let new : (i : ℕ) → i < length ts → get_or ts i nil ≢ t =
+      tree-new f over (diagram-local us) diagram_eq before n
+      (λ m b same. diagram-told us ts tables.store.arrows_once tables.store.diagrams_once n m children b same)
+      (diagram-wider (length us)) tables.diagrams_grounded none
+      in
+      let agree : AgreeBelow (length ts) ts (diagram_trees arrows after) =
+      λ j h. sym (ap (λ vs. get_or vs j nil) pushed ∙ at-push ts t j h)
+      in
+      let whole : with_diagram (contents_of arrows before) t ≡ contents_of arrows after =
+      λ i. record { diagrams = sym pushed i; arrows = us }
+      in
+      let held = holds-equal f over (diagram-local us) diagram_eq (diagram-alike us) after n grounded in
+      record {
+        tables = record {
+          arrows_grounded = tables.arrows_grounded;
+          diagrams_grounded = grounded;
+          store = subst IsStore whole (IsStore-push_diagram (contents_of arrows before) t tables.store shape slices legs
+              low new);
+        };
+        grows = subst (Grows (contents_of arrows before)) whole (Grows-push_diagram (contents_of arrows before) t);
+        adds = inr (sym whole);
+        held = λ i k at is.
+            let h = held i k at is in
+            record {
+              of_list = h.of_list;
+              tree = h.tree ∙ sym
+                  (diagram-local us (length ts) ts (diagram_trees arrows after) n children agree);
+            };
+      }
+
+  pub puts_diagram : (after : List DiagramNode)
+      → after ≡ (if list_any (diagram_eq n) before then before else before ++ n ∷ []) → PutsDiagram arrows before after n
+  puts_diagram after keys = by (list_any (diagram_eq n) before) refl
+    where
+      by : (b : Bool) → list_any (diagram_eq n) before ≡ b → PutsDiagram arrows before after n
+      by true e = subst (λ ns. PutsDiagram arrows before ns n)
+          (sym (keys ∙ ap (λ b. if b then before else before ++ n ∷ []) e)) diagram_there
+      by false e = subst (λ ns. PutsDiagram arrows before ns n)
+          (sym (keys ∙ ap (λ b. if b then before else before ++ n ∷ []) e)) (diagram_absent e)

@@ -1,0 +1,48 @@
+use Rattle.std.proofs.Common.{◌∙◌}
+use Rattle.hashcons.specs.declared.id.AnyId.TheVariants as id
+use Rattle.hashcons.proofs.ListedNodes.{arrow_before, arrow_node_is}
+use Rattle.hashcons.proofs.store.Store.arrow_node_at.Goals as goal
+
+pub arrow_places-requires : goal.arrow_places-requires
+arrow_places-requires c =
+    let r = c.requires in
+    let p = arrow_before c.args.self.now r.store c.args.order.now.keys r.listing c.args.at (id.Arrow c.args.a) r.there
+    c.view_arrow.result.now c.in-Zig.heights c.in-Zig.regs c.in-Zig.sings c.view_arrow.ensures.tree
+    c.view_arrow.ensures.children c.in-Zig.is in
+    rw c.as_slice-in-Zig.ensures p.regs.stand
+
+pub arrow_places-requires-in-Zig : goal.arrow_places-requires-in-Zig
+arrow_places-requires-in-Zig c =
+    let r = c.requires in
+    let p = arrow_before c.args.self.now r.store c.args.order.now.keys r.listing c.args.at (id.Arrow c.args.a) r.there
+    c.view_arrow.result.now c.in-Zig.heights c.in-Zig.regs c.in-Zig.sings c.view_arrow.ensures.tree
+    c.view_arrow.ensures.children c.in-Zig.is in
+    rw c.as_slice-in-Zig-2.ensures p.sings.stand
+
+pub returns-in_ok-arrow_places-in-Zig-2-clause-tree :
+    goal.returns-in_ok-arrow_places-in-Zig-2-clause-tree
+returns-in_ok-arrow_places-in-Zig-2-clause-tree c =
+    let r = c.requires in
+    let p = arrow_before c.args.self.now r.store c.args.order.now.keys r.listing c.args.at (id.Arrow c.args.a) r.there
+    c.view_arrow.result.now c.in-Zig.heights c.in-Zig.regs c.in-Zig.sings c.view_arrow.ensures.tree
+    c.view_arrow.ensures.children c.in-Zig.is in
+    (arrow_node_is c.args.self.now r.store c.args.order.now.keys r.listing c.args.at (id.Arrow c.args.a) r.there
+    c.in-Zig.heights.items c.in-Zig.regs.items c.in-Zig.sings.items
+    c.in_ok-from_slice-in-Zig.field-0 c.in_ok-arrow_places-in-Zig.field-0 c.in_ok-arrow_places-in-Zig-2.field-0 p
+    (c.in_ok-from_slice-in-Zig.ensures ∙ c.as_slice.ensures)
+    (rw c.as_slice-in-Zig.ensures at c.in_ok-arrow_places-in-Zig.ensures)
+    (rw c.as_slice-in-Zig-2.ensures at c.in_ok-arrow_places-in-Zig-2.ensures)).tree
+
+pub returns-in_ok-arrow_places-in-Zig-2-clause-earlier :
+    goal.returns-in_ok-arrow_places-in-Zig-2-clause-earlier
+returns-in_ok-arrow_places-in-Zig-2-clause-earlier c =
+    let r = c.requires in
+    let p = arrow_before c.args.self.now r.store c.args.order.now.keys r.listing c.args.at (id.Arrow c.args.a) r.there
+    c.view_arrow.result.now c.in-Zig.heights c.in-Zig.regs c.in-Zig.sings c.view_arrow.ensures.tree
+    c.view_arrow.ensures.children c.in-Zig.is in
+    (arrow_node_is c.args.self.now r.store c.args.order.now.keys r.listing c.args.at (id.Arrow c.args.a) r.there
+    c.in-Zig.heights.items c.in-Zig.regs.items c.in-Zig.sings.items
+    c.in_ok-from_slice-in-Zig.field-0 c.in_ok-arrow_places-in-Zig.field-0 c.in_ok-arrow_places-in-Zig-2.field-0 p
+    (c.in_ok-from_slice-in-Zig.ensures ∙ c.as_slice.ensures)
+    (rw c.as_slice-in-Zig.ensures at c.in_ok-arrow_places-in-Zig.ensures)
+    (rw c.as_slice-in-Zig-2.ensures at c.in_ok-arrow_places-in-Zig-2.ensures)).earlier

@@ -1,0 +1,23 @@
+use Rattle.std.proofs.Common.{◌≡◌, length, vec_len, subst, sym}
+use Rattle.diagram_terms.specs.Dual.{AreBelow}
+use Rattle.hashcons.proofs.ListEnd.{roots_stand, root_places_below, root_trees}
+use Rattle.hashcons.proofs.store.Store.list.Goals as goal
+
+pub root_places-requires : goal.root_places-requires
+root_places-requires c =
+    let o = c.in_ok-order.ensures in
+    roots_stand c.args.self.now o.store c.in_ok-order.order.keys c.args.roots.now o.listing c.requires o.trees
+
+pub returns-clause-places : goal.returns-clause-places
+returns-clause-places c =
+    let o = c.in_ok-order.ensures in
+    root_trees c.args.self.now o.store c.in_ok-order.order.keys c.args.roots.now o.listing c.requires o.trees
+    c.in_ok-places.places.items c.in_ok-places.ensures c.in_ok-nodes.nodes.items c.in_ok-nodes.ensures.trees
+
+pub returns-clause-within : goal.returns-clause-within
+returns-clause-within c =
+    let o = c.in_ok-order.ensures in
+    let below = root_places_below c.args.self.now o.store c.in_ok-order.order.keys c.args.roots.now o.listing c.requires
+    o.trees c.in_ok-places.places.items c.in_ok-places.ensures c.in_ok-nodes.nodes.items c.in_ok-nodes.ensures.trees in
+    let e : length c.in_ok-nodes.nodes.items ≡ vec_len c.in_ok-nodes.nodes = sym (c.in_ok-nodes.nodes.ok.0) in
+    subst (AreBelow c.in_ok-places.places.items) e below

@@ -1,0 +1,6 @@
+pub mod Contents
+pub mod Gathers
+pub mod Ids
+pub mod Listing
+pub mod Nodes
+pub mod Tables

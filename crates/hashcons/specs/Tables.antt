@@ -1,0 +1,35 @@
+-- The trees that tables of nodes stand for, where each node names earlier ones.
+use Rattle.std.specs.Prelude.{ℕ, ◌+◌, List, [], ◌∷◌, ◌++◌, length}
+use Rattle.diagram_terms.specs.Tree.{Tree}
+use Rattle.hashcons.specs.declared.node.DiagramNode.{DiagramNode}
+use Rattle.hashcons.specs.declared.node.ArrowNode.{ArrowNode}
+use Rattle.hashcons.specs.Contents.{Contents, IsStore}
+use Rattle.hashcons.specs.Nodes.{tree_of_arrow, tree_of_diagram, IsArrowOver, IsDiagramOver}
+
+module _ {N : Type 0} where
+  -- these trees, and then those of the nodes, each made by f of the trees before it
+  abbrev pub trees_from : (List Tree → N → Tree) → List Tree → List N → List Tree
+  trees_from f ts [] = ts
+  trees_from f ts (n ∷ ns) = trees_from f (ts ++ f ts n ∷ []) ns
+
+  -- each node names only nodes before it, where k nodes stand before the list
+  abbrev pub AreGrounded : (ℕ → N → Type 0) → ℕ → List N → Type 0
+  AreGrounded B k [] = Unit {0}
+  AreGrounded B k (n ∷ ns) = B k n × AreGrounded B (k + 1) ns
+
+-- the trees of two tables
+abbrev pub arrow_trees : List ArrowNode → List Tree
+arrow_trees nodes = trees_from tree_of_arrow [] nodes
+
+abbrev pub diagram_trees : List ArrowNode → List DiagramNode → List Tree
+diagram_trees arrows nodes = trees_from (tree_of_diagram (arrow_trees arrows)) [] nodes
+
+-- what callers see of two tables
+abbrev pub contents_of : List ArrowNode → List DiagramNode → Contents
+contents_of arrows diagrams = record { diagrams = diagram_trees arrows diagrams; arrows = arrow_trees arrows }
+
+-- children stand before parents, and what is true of every store
+pub record AreTables (arrows : List ArrowNode) (diagrams : List DiagramNode) : Type 0 where
+  pub arrows_grounded : AreGrounded IsArrowOver 0 arrows
+  pub diagrams_grounded : AreGrounded (IsDiagramOver (length (arrow_trees arrows))) 0 diagrams
+  pub store : IsStore (contents_of arrows diagrams)

@@ -1,0 +1,203 @@
+ghost use Rattle.std.specs.Prelude.{◌≡◌, ◌<◌, OnOk, IfOk, length, map, vec_len, slice_get, true};
+ghost use Rattle.std.specs.List.{flat_map};
+ghost use Rattle.diagram_terms.specs.Completion.{children, completions, distinct_subtrees};
+ghost use Rattle.diagram_terms.specs.Dual.{AreBelow};
+ghost use Rattle.diagram_terms.specs.Nodes.{picked, node_tree, places_below, trees_of, tree_at};
+ghost use Rattle.hashcons.specs.Contents.{IsStore, IsDiagramOf, IsArrowOf, diagram_at, arrow_at};
+ghost use Rattle.hashcons.specs.Ids.{IsOf, tree_of, id_at};
+ghost use Rattle.hashcons.specs.Listing.{AreOf, listed, IsListing, Visits, AreOfOneDimension, NameEarlier, StandsIn, IsFirstPlace, AllStandIn, ArePlacesOf, diagram_ids, arrow_ids};
+ghost use Rattle.indexmap.specs.IndexSet.{index_set_len};
+
+use crate::id::{AnyId, ArrowId, DiagramId};
+use crate::node::{ArrowNode, DiagramNode};
+use crate::store::Store;
+use diagram_terms::{Items, Node};
+use indexmap::IndexSet;
+use std::alloc::{AllocError, Global};
+
+impl Store {
+    /// The distinct subtrees of some roots as nodes, in the order in which they are first completed,
+    /// and the place of each root.
+    pub fn list(&self, roots: &[AnyId]) -> Result<(Vec<Node>, Vec<usize>), AllocError>
+        requires { AreOf self.now roots.now }
+        ensures trees { IfOk result (λ r.
+            trees_of r.0.items ≡ distinct_subtrees (map (tree_of self.now) roots.now)) }
+        ensures earlier { IfOk result (λ r. NameEarlier r.0.items) }
+        ensures places { IfOk result (λ r.
+            map (tree_at r.0.items) r.1.items ≡ map (tree_of self.now) roots.now) }
+        ensures within { IfOk result (λ r. AreBelow r.1.items (vec_len r.0)) }
+    {
+        let order = self.completed(roots)?;
+        let nodes = self.nodes_in(&order)?;
+        let places = root_places(self.allocator(), &order, roots)?;
+        Ok((nodes, places))
+    }
+
+    /// The ids under the roots, in the order in which they are first completed.
+    fn completed(&self, roots: &[AnyId]) -> Result<IndexSet<AnyId>, AllocError>
+        requires { AreOf self.now roots.now }
+        ensures listing { IfOk result (λ order. IsListing self.now order.keys) }
+        ensures trees { IfOk result (λ order.
+            listed self.now order.keys ≡ distinct_subtrees (map (tree_of self.now) roots.now)) }
+        ensures store { IsStore self.now }
+    {
+        let mut order = IndexSet::new(self.allocator());
+        for root in roots {
+            self.visit(*root, &mut order)?;
+        }
+        Ok(order)
+    }
+
+    /// The nodes of a listing, over the places in it.
+    fn nodes_in(&self, order: &IndexSet<AnyId>) -> Result<Vec<Node>, AllocError>
+        requires store { IsStore self.now }
+        requires listing { IsListing self.now order.now.keys }
+        ensures trees { IfOk result (λ nodes.
+            trees_of nodes.items ≡ listed self.now order.now.keys) }
+        ensures earlier { IfOk result (λ nodes. NameEarlier nodes.items) }
+    {
+        let mut nodes = Vec::new(self.allocator());
+        for at in 0..order.len() {
+            let node = self.node_at(order, at)?;
+            nodes.push(node)?;
+        }
+        Ok(nodes)
+    }
+
+    /// The node at a place of a listing, over the places of its children.
+    fn node_at(&self, order: &IndexSet<AnyId>, at: usize) -> Result<Node, AllocError>
+        requires store { IsStore self.now }
+        requires listing { IsListing self.now order.now.keys }
+        requires within { at < index_set_len order.now }
+        ensures tree { IfOk result (λ n.
+            node_tree (listed self.now order.now.keys) n ≡ tree_of self.now (id_at order.now.keys at)) }
+        ensures earlier { IfOk result (λ n. places_below at n ≡ true) }
+    {
+        match order[at] {
+            AnyId::Diagram(d) => self.diagram_node_at(order, at, d),
+            AnyId::Arrow(a) => self.arrow_node_at(order, at, a),
+        }
+    }
+
+    /// The node of a diagram that stands at a place of a listing.
+    fn diagram_node_at(
+        &self,
+        order: &IndexSet<AnyId>,
+        at: usize,
+        d: DiagramId,
+    ) -> Result<Node, AllocError>
+        requires store { IsStore self.now }
+        requires listing { IsListing self.now order.now.keys }
+        requires there { slice_get order.now.keys at ≡ Some (AnyId.Diagram d) }
+        ensures tree { IfOk result (λ n.
+            node_tree (listed self.now order.now.keys) n ≡ diagram_at self.now d) }
+        ensures earlier { IfOk result (λ n. places_below at n ≡ true) }
+    {
+        let alloc = self.allocator();
+        match self.view_diagram(d) {
+            DiagramNode::Zero(label) => Ok(Node::Label(*label)),
+            DiagramNode::Zig {
+                regs,
+                sings,
+                fwds,
+                bwds,
+            } => Ok(Node::Diagram {
+                regs: diagram_places(alloc, order, regs.as_slice())?,
+                sings: diagram_places(alloc, order, sings.as_slice())?,
+                fwds: arrow_places(alloc, order, fwds.as_slice())?,
+                bwds: arrow_places(alloc, order, bwds.as_slice())?,
+            }),
+        }
+    }
+
+    /// The node of an arrow that stands at a place of a listing.
+    fn arrow_node_at(
+        &self,
+        order: &IndexSet<AnyId>,
+        at: usize,
+        a: ArrowId,
+    ) -> Result<Node, AllocError>
+        requires store { IsStore self.now }
+        requires listing { IsListing self.now order.now.keys }
+        requires there { slice_get order.now.keys at ≡ Some (AnyId.Arrow a) }
+        ensures tree { IfOk result (λ n.
+            node_tree (listed self.now order.now.keys) n ≡ arrow_at self.now a) }
+        ensures earlier { IfOk result (λ n. places_below at n ≡ true) }
+    {
+        let alloc = self.allocator();
+        match self.view_arrow(a) {
+            ArrowNode::Zero(from, to) => Ok(Node::Labels(*from, *to)),
+            ArrowNode::Zig {
+                heights,
+                regs,
+                sings,
+            } => Ok(Node::Arrow {
+                heights: Items::from_slice(alloc, heights.as_slice())?,
+                regs: arrow_places(alloc, order, regs.as_slice())?,
+                sings: arrow_places(alloc, order, sings.as_slice())?,
+            }),
+        }
+    }
+}
+
+/// The places of roots in a listing.
+fn root_places(
+    alloc: Global,
+    order: &IndexSet<AnyId>,
+    roots: &[AnyId],
+) -> Result<Vec<usize>, AllocError>
+    requires { AllStandIn order.now.keys roots.now }
+    ensures { IfOk result (λ places.
+        ArePlacesOf order.now.keys roots.now (length roots.now) places.items) }
+{
+    let mut places = Vec::new(alloc);
+    for root in roots {
+        places.push(place_of(order, *root))?;
+    }
+    Ok(places)
+}
+
+/// The places of diagrams in a listing.
+fn diagram_places(
+    alloc: Global,
+    order: &IndexSet<AnyId>,
+    ds: &[DiagramId],
+) -> Result<Items<usize>, AllocError>
+    requires { AllStandIn order.now.keys (diagram_ids ds.now) }
+    ensures { IfOk result (λ places.
+        ArePlacesOf order.now.keys (diagram_ids ds.now) (length ds.now) places) }
+{
+    let mut places = Vec::new(alloc);
+    for d in ds {
+        places.push(place_of(order, AnyId::Diagram(*d)))?;
+    }
+    Ok(Items::from_vec(places))
+}
+
+/// The places of arrows in a listing.
+fn arrow_places(
+    alloc: Global,
+    order: &IndexSet<AnyId>,
+    arrows: &[ArrowId],
+) -> Result<Items<usize>, AllocError>
+    requires { AllStandIn order.now.keys (arrow_ids arrows.now) }
+    ensures { IfOk result (λ places.
+        ArePlacesOf order.now.keys (arrow_ids arrows.now) (length arrows.now) places) }
+{
+    let mut places = Vec::new(alloc);
+    for a in arrows {
+        places.push(place_of(order, AnyId::Arrow(*a)))?;
+    }
+    Ok(Items::from_vec(places))
+}
+
+/// The place of an id in a listing.
+fn place_of(order: &IndexSet<AnyId>, id: AnyId) -> usize
+    requires { StandsIn order.now.keys id }
+    ensures { IsFirstPlace order.now.keys id result }
+{
+    match order.get_index_of(&id) {
+        Some(place) => place,
+        None => unreachable!(),
+    }
+}

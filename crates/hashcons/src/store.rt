@@ -1,0 +1,103 @@
+ghost use Rattle.std.specs.Prelude.{◌≡◌};
+
+use crate::id::{ArrowId, DiagramId};
+use crate::node::{ArrowNode, DiagramNode};
+use indexmap::IndexSet;
+use std::alloc::{AllocError, Global};
+use std::marker::Model;
+
+/// A store of diagrams and arrows, in which each tree stands once and children before parents.
+///
+/// Contracts see the tree of each id. An id keeps its tree, whatever is put later.
+#[derive(Drop)]
+pub struct Store {
+    diagrams: IndexSet<DiagramNode>,
+    arrows: IndexSet<ArrowNode>,
+}
+
+impl Model for Store {
+    ghost use Rattle.hashcons.specs.Contents.{Contents, coded_contents};
+
+    ghost Value = { Contents };
+
+    ghost coded = { coded_contents };
+
+    ghost use Rattle.hashcons.specs.Tables.{contents_of, AreTables};
+
+    ghost view = { λ s. contents_of s.arrows.keys s.diagrams.keys };
+
+    ghost invariant = { λ s. AreTables s.arrows.keys s.diagrams.keys };
+}
+
+impl Store {
+    ghost use Rattle.std.specs.Prelude.{◌≡◌, IfOk, OnErr};
+    ghost use Rattle.diagram_terms.specs.Dimension.{IsDiagramTree, IsArrowTree};
+    ghost use Rattle.hashcons.specs.Contents.{empty, IsStore, IsDiagramOf, IsArrowOf, Grows, AddsDiagram, AddsArrow, diagram_at, arrow_at};
+    ghost use Rattle.hashcons.specs.Nodes.{HasChildrenOf, HasArrowsOf, described_diagram, described_arrow};
+
+    /// A store with no nodes.
+    pub fn new(alloc: Global) -> Store
+        ensures { result ≡ empty }
+    {
+        Store {
+            diagrams: IndexSet::new(alloc),
+            arrows: IndexSet::new(alloc),
+        }
+    }
+
+    pub(crate) fn allocator(&self) -> Global
+        ensures { IsStore self.now }
+    {
+        *self.diagrams.allocator()
+    }
+
+    /// The id of the arrow that the node describes.
+    pub fn put_arrow(&mut self, node: ArrowNode) -> Result<ArrowId, AllocError>
+        requires children { HasArrowsOf self.old node }
+        requires shape { IsArrowTree (described_arrow self.old node) }
+        ensures of_store { IfOk result (λ a. IsArrowOf self.new a) }
+        ensures tree { IfOk result (λ a. arrow_at self.new a ≡ described_arrow self.old node) }
+        ensures adds { AddsArrow self.old self.new (described_arrow self.old node) }
+        ensures grows { Grows self.old self.new }
+        ensures err { OnErr result (self.new ≡ self.old) }
+        ensures store { IsStore self.new }
+    {
+        let (index, _) = self.arrows.insert_full(node)?;
+        Ok(ArrowId { index })
+    }
+
+    /// The id of the diagram that the node describes.
+    pub fn put_diagram(&mut self, node: DiagramNode) -> Result<DiagramId, AllocError>
+        requires children { HasChildrenOf self.old node }
+        requires shape { IsDiagramTree (described_diagram self.old node) }
+        ensures of_store { IfOk result (λ d. IsDiagramOf self.new d) }
+        ensures tree { IfOk result (λ d. diagram_at self.new d ≡ described_diagram self.old node) }
+        ensures adds { AddsDiagram self.old self.new (described_diagram self.old node) }
+        ensures grows { Grows self.old self.new }
+        ensures err { OnErr result (self.new ≡ self.old) }
+        ensures store { IsStore self.new }
+    {
+        let (index, _) = self.diagrams.insert_full(node)?;
+        Ok(DiagramId { index })
+    }
+
+    /// The node of a diagram.
+    pub fn view_diagram(&self, id: DiagramId) -> &DiagramNode
+        requires of_store { IsDiagramOf self.now id }
+        ensures tree { described_diagram self.now result.now ≡ diagram_at self.now id }
+        ensures children { HasChildrenOf self.now result.now }
+        ensures store { IsStore self.now }
+    {
+        &self.diagrams[id.index]
+    }
+
+    /// The node of an arrow.
+    pub fn view_arrow(&self, id: ArrowId) -> &ArrowNode
+        requires of_store { IsArrowOf self.now id }
+        ensures tree { described_arrow self.now result.now ≡ arrow_at self.now id }
+        ensures children { HasArrowsOf self.now result.now }
+        ensures store { IsStore self.now }
+    {
+        &self.arrows[id.index]
+    }
+}

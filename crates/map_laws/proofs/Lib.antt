@@ -1,0 +1,11 @@
+pub mod Associativity
+pub mod CompositeSquares
+pub mod IdentityShapes
+pub mod Inverses
+pub mod LabelOrder
+pub mod Neutral
+pub mod PlainArrows
+pub mod SquareEdges
+pub mod ValidComposites
+pub mod ValidIdentities
+pub mod ValidParts
