@@ -1,0 +1,4 @@
+pub mod CompositeLemmas
+pub mod CompositeSteps
+pub mod IdentityLemmas
+pub mod KeepLemmas

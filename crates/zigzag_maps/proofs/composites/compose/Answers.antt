@@ -1,0 +1,12 @@
+use Rattle.std.proofs.Common.{sym, subst}
+use Rattle.hashcons.specs.Contents.{diagram_at, arrow_at}
+use Rattle.zigzag_maps.specs.Trees.{IsArrowBetween}
+use Rattle.zigzag_maps.proofs.CompositeLemmas.{composable_between}
+use Rattle.zigzag_maps.proofs.composites.compose.Goals as goal
+
+pub composite-requires-clause-composable : goal.composite-requires-clause-composable
+composite-requires-clause-composable c =
+    let now = c.args.store.now in
+    let g = c.requires.outer.between in
+    composable_between _ _ _ _ _ c.requires.inner.between
+    (subst (λ d. IsArrowBetween (diagram_at now d) (diagram_at now c.args.g.target) (arrow_at now c.args.g.arrow)) (sym c.requires.meet) g)

@@ -1,0 +1,15 @@
+use Rattle.zigzag_maps.specs.Found.{IsValidMap}
+use Rattle.zigzag_maps.specs.Keeps.{same_triple}
+use Rattle.zigzag_maps.proofs.KeepLemmas.{set_more, exact_triple}
+use Rattle.zigzag_maps.proofs.kept.Kept.keep_valid_map.Goals as goal
+
+pub returns : goal.returns
+returns c = λ s h is. record {
+  identities = h.identities;
+  composites = h.composites;
+  diagrams = h.diagrams;
+  maps = λ m. set_more same_triple exact_triple (λ p. IsValidMap s (record { source = p.0; target = p.1; arrow = p.2 }))
+      c.args.self.now.valid_maps c.insert.new.self
+      (c.args.f.source, c.args.f.target, c.args.f.arrow) c.in_ok-insert.ensures.updates
+      (λ p. h.maps (record { source = p.0; target = p.1; arrow = p.2 })) is (m.source, m.target, m.arrow);
+}

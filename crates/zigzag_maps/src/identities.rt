@@ -1,0 +1,171 @@
+ghost use Rattle.std.specs.Prelude.{◌≡◌, ◌+◌, ◌<◌, IfOk, length};
+ghost use Rattle.diagram_terms.specs.Dimension.{dimension_of};
+ghost use Rattle.diagram_terms.specs.Dual.{upto};
+ghost use Rattle.diagram_terms.specs.Shape.{reg_at, sing_at};
+ghost use Rattle.diagram_terms.specs.Tree.{sings};
+ghost use Rattle.hashcons.specs.Contents.{IsDiagramOf, IsArrowOf, Grows, IsStore, diagram_at, arrow_at};
+ghost use Rattle.hashcons.specs.Gathers.{Gathers};
+ghost use Rattle.zigzag_maps.specs.Keeps.{AreRight};
+ghost use Rattle.zigzag_maps.specs.Trees.{identity_tree};
+
+use crate::kept::Kept;
+use crate::map::Map;
+use hashcons::{AnyId, ArrowId, ArrowNode, DiagramId, Store};
+use smallvec::SmallVec;
+use std::alloc::{AllocError, Global};
+
+/// The identity map of a diagram.
+pub fn identity(alloc: Global, store: &mut Store, d: DiagramId) -> Result<Map, AllocError>
+    requires of_store { IsDiagramOf store.old d }
+    ensures source { IfOk result (λ m. m.source ≡ d) }
+    ensures target { IfOk result (λ m. m.target ≡ d) }
+    ensures of_store { IfOk result (λ m. IsArrowOf store.new m.arrow) }
+    ensures tree { IfOk result (λ m.
+        arrow_at store.new m.arrow ≡ identity_tree (diagram_at store.old d)) }
+    ensures grows { Grows store.old store.new }
+    ensures store { IsStore store.new }
+{
+    let dim = store.dim(AnyId::Diagram(d));
+    let mut kept = Kept::new(alloc);
+    let arrow = identity_arrow(alloc, store, &mut kept, dim, d)?;
+    Ok(Map {
+        source: d,
+        target: d,
+        arrow,
+    })
+}
+
+/// The identity arrow of a diagram of dimension `dim`, worked out once.
+#[cycle(identities)]
+#[tactic(auto, using(crate::proofs::IdentityLemmas::identifies))]
+pub(crate) fn identity_arrow(
+    alloc: Global,
+    store: &mut Store,
+    kept: &mut Kept,
+    dim: usize,
+    d: DiagramId,
+) -> Result<ArrowId, AllocError>
+    requires of_store { IsDiagramOf store.old d }
+    requires dim { dim ≡ dimension_of (diagram_at store.old d) }
+    requires kept { AreRight store.old kept.old }
+    requires store { IsStore store.old }
+    ensures of_store { IfOk result (λ a. IsArrowOf store.new a) }
+    ensures tree { IfOk result (λ a. arrow_at store.new a ≡ identity_tree (diagram_at store.old d)) }
+    ensures kept { AreRight store.new kept.new }
+    ensures grows { Grows store.old store.new }
+    ensures store { IsStore store.new }
+{
+    if let Some(known) = kept.identity(d) {
+        return Ok(known);
+    }
+    let arrow = identity_anew(alloc, store, kept, dim, d)?;
+    kept.keep_identity(d, arrow)?;
+    Ok(arrow)
+}
+
+#[cycle(identities)]
+#[tactic(auto, using(crate::proofs::IdentityLemmas::identifies))]
+fn identity_anew(
+    alloc: Global,
+    store: &mut Store,
+    kept: &mut Kept,
+    dim: usize,
+    d: DiagramId,
+) -> Result<ArrowId, AllocError>
+    requires of_store { IsDiagramOf store.old d }
+    requires dim { dim ≡ dimension_of (diagram_at store.old d) }
+    requires kept { AreRight store.old kept.old }
+    requires store { IsStore store.old }
+    ensures of_store { IfOk result (λ a. IsArrowOf store.new a) }
+    ensures tree { IfOk result (λ a. arrow_at store.new a ≡ identity_tree (diagram_at store.old d)) }
+    ensures kept { AreRight store.new kept.new }
+    ensures grows { Grows store.old store.new }
+    ensures store { IsStore store.new }
+{
+    if dim == 0 {
+        let x = store.label(d);
+        return store.put_arrow(ArrowNode::Zero(x, x));
+    }
+    let heights = heights_below(alloc, store.length(d))?;
+    let regs = regular_identities(alloc, store, kept, dim, d)?;
+    let sings = singular_identities(alloc, store, kept, dim, d)?;
+    store.put_arrow(ArrowNode::Zig {
+        heights,
+        regs,
+        sings,
+    })
+}
+
+/// The identities of the regular slices of a diagram, in order.
+#[cycle(identities)]
+#[tactic(auto, using(crate::proofs::IdentityLemmas::identifies))]
+fn regular_identities(
+    alloc: Global,
+    store: &mut Store,
+    kept: &mut Kept,
+    dim: usize,
+    d: DiagramId,
+) -> Result<SmallVec<ArrowId, 4>, AllocError>
+    requires of_store { IsDiagramOf store.old d }
+    requires dim { dim ≡ dimension_of (diagram_at store.old d) }
+    requires above { 0 < dim }
+    requires kept { AreRight store.old kept.old }
+    requires store { IsStore store.old }
+    ensures gathers { IfOk result (λ ids. Gathers store.new.arrows ids.items
+        (length (sings (diagram_at store.old d)) + 1)
+        (λ j. identity_tree (reg_at (diagram_at store.old d) j))) }
+    ensures kept { AreRight store.new kept.new }
+    ensures grows { Grows store.old store.new }
+    ensures store { IsStore store.new }
+{
+    let mut ids = SmallVec::new(alloc);
+    let first = store.reg(d, 0);
+    ids.push(identity_arrow(alloc, store, kept, dim - 1, first)?)?;
+    for i in 0..store.length(d) {
+        let slice = store.reg(d, i + 1);
+        ids.push(identity_arrow(alloc, store, kept, dim - 1, slice)?)?;
+    }
+    Ok(ids)
+}
+
+/// The identities of the singular slices of a diagram, in order.
+#[cycle(identities)]
+#[tactic(auto, using(crate::proofs::IdentityLemmas::identifies))]
+fn singular_identities(
+    alloc: Global,
+    store: &mut Store,
+    kept: &mut Kept,
+    dim: usize,
+    d: DiagramId,
+) -> Result<SmallVec<ArrowId, 4>, AllocError>
+    requires of_store { IsDiagramOf store.old d }
+    requires dim { dim ≡ dimension_of (diagram_at store.old d) }
+    requires above { 0 < dim }
+    requires kept { AreRight store.old kept.old }
+    requires store { IsStore store.old }
+    ensures gathers { IfOk result (λ ids. Gathers store.new.arrows ids.items
+        (length (sings (diagram_at store.old d)))
+        (λ i. identity_tree (sing_at (diagram_at store.old d) i))) }
+    ensures kept { AreRight store.new kept.new }
+    ensures grows { Grows store.old store.new }
+    ensures store { IsStore store.new }
+{
+    let mut ids = SmallVec::new(alloc);
+    for i in 0..store.length(d) {
+        let slice = store.sing(d, i);
+        ids.push(identity_arrow(alloc, store, kept, dim - 1, slice)?)?;
+    }
+    Ok(ids)
+}
+
+/// The heights below `n`, in order.
+#[tactic(auto, using(crate::proofs::IdentityLemmas::upto_more))]
+fn heights_below(alloc: Global, n: usize) -> Result<SmallVec<usize, 4>, AllocError>
+    ensures { IfOk result (λ heights. heights.items ≡ upto n) }
+{
+    let mut heights = SmallVec::new(alloc);
+    for i in 0..n {
+        heights.push(i)?;
+    }
+    Ok(heights)
+}

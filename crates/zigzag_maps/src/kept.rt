@@ -1,0 +1,96 @@
+use crate::map::Map;
+use hashcons::{ArrowId, DiagramId};
+use std::alloc::{AllocError, Global};
+use std::collections::{HashMap, HashSet};
+
+/// What was found out about the ids of a store, so that no call works it out twice.
+#[derive(Drop)]
+pub(crate) struct Kept {
+    identities: HashMap<DiagramId, ArrowId>,
+    composites: HashMap<(ArrowId, ArrowId), ArrowId>,
+    valid_diagrams: HashSet<DiagramId>,
+    valid_maps: HashSet<(DiagramId, DiagramId, ArrowId)>,
+}
+
+impl Kept {
+    ghost use Rattle.std.specs.Prelude.{IfSome, OnOk, IsTrue, ◌≡◌};
+    ghost use Rattle.hashcons.specs.Contents.{Contents};
+    ghost use Rattle.zigzag_maps.specs.Found.{IsIdentityOf, IsCompositeOf, IsValidDiagram, IsValidMap};
+    ghost use Rattle.zigzag_maps.specs.Keeps.{AreRight};
+
+    pub(crate) fn new(alloc: Global) -> Kept
+        ensures { (c : Contents) → AreRight c result }
+    {
+        Kept {
+            identities: HashMap::new(alloc),
+            composites: HashMap::new(alloc),
+            valid_diagrams: HashSet::new(alloc),
+            valid_maps: HashSet::new(alloc),
+        }
+    }
+
+    /// The composite of `g` after `f`, where it is kept.
+    pub(crate) fn composite(&self, g: ArrowId, f: ArrowId) -> Option<ArrowId>
+        ensures { (c : Contents) → AreRight c self.now → IfSome result (IsCompositeOf c g f) }
+    {
+        self.composites.get(&(g, f)).copied()
+    }
+
+    pub(crate) fn keep_composite(
+        &mut self,
+        g: ArrowId,
+        f: ArrowId,
+        composite: ArrowId,
+    ) -> Result<(), AllocError>
+        ensures { (c : Contents) → AreRight c self.old → IsCompositeOf c g f composite → AreRight c self.new }
+    {
+        self.composites.insert((g, f), composite)?;
+        Ok(())
+    }
+
+    /// The identity arrow of `d`, where it is kept.
+    pub(crate) fn identity(&self, d: DiagramId) -> Option<ArrowId>
+        ensures { (c : Contents) → AreRight c self.now → IfSome result (IsIdentityOf c d) }
+    {
+        self.identities.get(&d).copied()
+    }
+
+    pub(crate) fn keep_identity(
+        &mut self,
+        d: DiagramId,
+        identity: ArrowId,
+    ) -> Result<(), AllocError>
+        ensures { (c : Contents) → AreRight c self.old → IsIdentityOf c d identity → AreRight c self.new }
+    {
+        self.identities.insert(d, identity)?;
+        Ok(())
+    }
+
+    /// Whether `d` is kept as a valid diagram.
+    pub(crate) fn has_valid(&self, d: DiagramId) -> bool
+        ensures { (c : Contents) → AreRight c self.now → IsTrue result → IsValidDiagram c d }
+    {
+        self.valid_diagrams.contains(&d)
+    }
+
+    pub(crate) fn keep_valid(&mut self, d: DiagramId) -> Result<(), AllocError>
+        ensures { (c : Contents) → AreRight c self.old → IsValidDiagram c d → AreRight c self.new }
+    {
+        self.valid_diagrams.insert(d)?;
+        Ok(())
+    }
+
+    /// Whether `f` is kept as a valid map.
+    pub(crate) fn has_valid_map(&self, f: Map) -> bool
+        ensures { (c : Contents) → AreRight c self.now → IsTrue result → IsValidMap c f }
+    {
+        self.valid_maps.contains(&(f.source, f.target, f.arrow))
+    }
+
+    pub(crate) fn keep_valid_map(&mut self, f: Map) -> Result<(), AllocError>
+        ensures { (c : Contents) → AreRight c self.old → IsValidMap c f → AreRight c self.new }
+    {
+        self.valid_maps.insert((f.source, f.target, f.arrow))?;
+        Ok(())
+    }
+}
