@@ -1,4 +1,11 @@
 pub mod CompositeLemmas
 pub mod CompositeSteps
+pub mod EdgeLemmas
+pub mod EdgeSteps
+pub mod FaultSteps
 pub mod IdentityLemmas
 pub mod KeepLemmas
+pub mod ValidityLemmas
+pub mod ValiditySteps
+pub mod VisitLemmas
+pub mod Visiting

@@ -81,14 +81,14 @@ impl Kept {
     }
 
     /// Whether `f` is kept as a valid map.
-    pub(crate) fn has_valid_map(&self, f: Map) -> bool
-        ensures { (c : Contents) → AreRight c self.now → IsTrue result → IsValidMap c f }
+    pub(crate) fn has_valid_map(&self, f: &Map) -> bool
+        ensures { (c : Contents) → AreRight c self.now → IsTrue result → IsValidMap c f.now }
     {
         self.valid_maps.contains(&(f.source, f.target, f.arrow))
     }
 
-    pub(crate) fn keep_valid_map(&mut self, f: Map) -> Result<(), AllocError>
-        ensures { (c : Contents) → AreRight c self.old → IsValidMap c f → AreRight c self.new }
+    pub(crate) fn keep_valid_map(&mut self, f: &Map) -> Result<(), AllocError>
+        ensures { (c : Contents) → AreRight c self.old → IsValidMap c f.now → AreRight c self.new }
     {
         self.valid_maps.insert((f.source, f.target, f.arrow))?;
         Ok(())

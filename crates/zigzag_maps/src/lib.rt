@@ -1,14 +1,21 @@
 //! Maps between diagrams of a store: arrows with their ends.
 #![tactic(auto)]
 
+mod commuting;
 mod composites;
+mod faults;
 mod identities;
 mod kept;
 mod map;
+mod outcome;
+mod validity;
 
 pub use composites::compose;
+pub use faults::squares;
 pub use identities::identity;
 pub use map::Map;
+pub use outcome::SquareTest;
+pub use validity::valid;
 
 #[cfg(test)]
 mod tests;

@@ -10,6 +10,6 @@ returns c = λ s h is. record {
   diagrams = h.diagrams;
   maps = λ m. set_more same_triple exact_triple (λ p. IsValidMap s (record { source = p.0; target = p.1; arrow = p.2 }))
       c.args.self.now.valid_maps c.insert.new.self
-      (c.args.f.source, c.args.f.target, c.args.f.arrow) c.in_ok-insert.ensures.updates
+      (c.args.f.now.source, c.args.f.now.target, c.args.f.now.arrow) c.in_ok-insert.ensures.updates
       (λ p. h.maps (record { source = p.0; target = p.1; arrow = p.2 })) is (m.source, m.target, m.arrow);
 }

@@ -1,0 +1,114 @@
+-- The first fault of a diagram of a store, slice by slice and leg by leg.
+use Rattle.std.proofs.Common.{◌≡◌, ℕ, zero, suc, ◌-◌, ◌<◌, ◌≤◌, length, Option, option_map, None, Some, sym, ap, subst, ◌∙◌, arith}
+use Rattle.diagram_terms.specs.declared.place.Place.{Place}
+use Rattle.diagram_terms.specs.declared.place.Step.TheVariants as step
+use Rattle.diagram_terms.specs.Tree.{Tree, sings}
+use Rattle.diagram_terms.specs.Shape.{IsDiagram, IsArrow, reg_at, sing_at, fwd_at, bwd_at}
+use Rattle.diagram_terms.specs.Places.{first_failure}
+use Rattle.zigzag_maps.proofs.Visiting.{first_failure-under}
+use Rattle.hashcons.specs.Contents.{Contents, Grows, IsDiagramOf, IsArrowOf, diagram_at, arrow_at}
+use Rattle.hashcons.proofs.ContentsLemmas.{Grows-refl}
+use Rattle.hashcons.proofs.Growth.{Grows-trans, diagram-kept, arrow-kept}
+use Rattle.zigzag_maps.specs.declared.map.Map.{Map}
+use Rattle.zigzag_maps.specs.Found.{IsValidDiagram}
+use Rattle.zigzag_maps.specs.Trees.{IsValidTreeAt}
+use Rattle.zigzag_maps.specs.Visits.{IsMapAt, place_in, tests_between}
+use Rattle.zigzag_maps.specs.Validity.{IsDiagramAt, HasValidParts, tests_in, reg_slice_tests, sing_slice_tests, fwd_tests, bwd_tests}
+use Rattle.zigzag_maps.proofs.KeepLemmas.{kept-grows}
+use Rattle.zigzag_maps.proofs.ValidityLemmas.{valid_from, valid_passes}
+
+-- ---- a store that grew
+
+pub is_diagram_at-grows : (old new : Contents) (n d : ℕ) → Grows old new → IsDiagramAt old n d → IsDiagramAt new n d
+is_diagram_at-grows old new n d g h = record {
+  of_store = g.diagrams d h.of_store;
+  shape = subst (IsDiagram n) (sym (g.diagram_trees d h.of_store)) h.shape;
+}
+
+pub parts-grow : (old new : Contents) (n m d : ℕ) → Grows old new → IsDiagramAt old n d → HasValidParts m (diagram_at old d) → HasValidParts m (diagram_at new d)
+parts-grow old new n m d g h p = subst (HasValidParts m) (sym (g.diagram_trees d h.of_store)) p
+
+pub ruleset diagrams = (Grows-refl, Grows-trans, diagram-kept, arrow-kept, kept-grows, is_diagram_at-grows, parts-grow)
+
+-- ---- what was kept, and what is to be kept
+
+pub kept_passes : (c : Contents) (d : ℕ) → IsValidDiagram c d → first_failure (tests_in (diagram_at c d)) ≡ None
+kept_passes c d h = valid_passes h.valid.dim (diagram_at c d) h.valid.at_dim
+
+pub valid_diagram_from : (c : Contents) (n d : ℕ) → IsDiagramAt c n d → first_failure (tests_in (diagram_at c d)) ≡ None → IsValidDiagram c d
+valid_diagram_from c n d h e = record { of_store = h.of_store; valid = record { dim = n; at_dim = valid_from n (diagram_at c d) h.shape e } }
+
+-- ---- the slices
+
+module _ (c : Contents) (d s : ℕ) (slice : IsDiagramOf c s) where
+  reg_slice_at : (n j : ℕ) → IsDiagramAt c (suc n) d → j ≤ length (sings (diagram_at c d)) → diagram_at c s ≡ reg_at (diagram_at c d) j → IsDiagramAt c n s
+  reg_slice_at n j h l e = record { of_store = slice; shape = subst (IsDiagram n) (sym e) (h.shape.regs_are j l) }
+
+  pub reg_slice : (n j : ℕ) → 0 < n → IsDiagramAt c n d → j ≤ length (sings (diagram_at c d)) → diagram_at c s ≡ reg_at (diagram_at c d) j → IsDiagramAt c (n - 1) s
+  reg_slice zero j above h l e = absurd (omega arith)
+  reg_slice (suc n) j above h l e = let k : n ≡ suc n - 1 = omega arith in subst (λ m. IsDiagramAt c m s) k (reg_slice_at n j h l e)
+
+  sing_slice_at : (n i : ℕ) → IsDiagramAt c (suc n) d → i < length (sings (diagram_at c d)) → diagram_at c s ≡ sing_at (diagram_at c d) i → IsDiagramAt c n s
+  sing_slice_at n i h l e = record { of_store = slice; shape = subst (IsDiagram n) (sym e) (h.shape.sings_are i l) }
+
+  pub sing_slice : (n i : ℕ) → 0 < n → IsDiagramAt c n d → i < length (sings (diagram_at c d)) → diagram_at c s ≡ sing_at (diagram_at c d) i → IsDiagramAt c (n - 1) s
+  sing_slice zero i above h l e = absurd (omega arith)
+  sing_slice (suc n) i above h l e = let k : n ≡ suc n - 1 = omega arith in subst (λ m. IsDiagramAt c m s) k (sing_slice_at n i h l e)
+
+  -- what was found in a slice
+  module _ (found : Option Place) (is : found ≡ first_failure (tests_in (diagram_at c s))) where
+    pub reg_slice_found : (j : ℕ) → diagram_at c s ≡ reg_at (diagram_at c d) j → option_map (place_in (step.R j)) found ≡ first_failure (reg_slice_tests (diagram_at c d) j)
+    reg_slice_found j e =
+        ap (option_map (place_in (step.R j))) (is ∙ ap (λ t. first_failure (tests_in t)) e)
+        ∙ sym (first_failure-under (step.R j) (tests_in (reg_at (diagram_at c d) j)))
+
+    pub sing_slice_found : (i : ℕ) → diagram_at c s ≡ sing_at (diagram_at c d) i → option_map (place_in (step.S i)) found ≡ first_failure (sing_slice_tests (diagram_at c d) i)
+    sing_slice_found i e =
+        ap (option_map (place_in (step.S i))) (is ∙ ap (λ t. first_failure (tests_in t)) e)
+        ∙ sym (first_failure-under (step.S i) (tests_in (sing_at (diagram_at c d) i)))
+
+-- ---- the legs
+
+module _ (c : Contents) (d : ℕ) (m : Map) (source : IsDiagramOf c m.source) (target : IsDiagramOf c m.target) (arrow : IsArrowOf c m.arrow) where
+  leg_at : (n k j : ℕ) (f : Tree) → IsArrow n f → HasValidParts n (diagram_at c d) → j ≤ length (sings (diagram_at c d)) → k < length (sings (diagram_at c d))
+      → diagram_at c m.source ≡ reg_at (diagram_at c d) j → diagram_at c m.target ≡ sing_at (diagram_at c d) k → arrow_at c m.arrow ≡ f → IsMapAt c n m
+  leg_at n k j f shape parts lj lk p q r = record {
+    source = source;
+    target = target;
+    arrow = arrow;
+    source_valid = subst (IsValidTreeAt n) (sym p) (parts.reg_slices j lj);
+    target_valid = subst (IsValidTreeAt n) (sym q) (parts.sing_slices k lk);
+    arrow_shape = subst (IsArrow n) (sym r) shape;
+  }
+
+  pub fwd_leg : (n k : ℕ) → 0 < n → IsDiagramAt c n d → HasValidParts (n - 1) (diagram_at c d) → k < length (sings (diagram_at c d))
+      → diagram_at c m.source ≡ reg_at (diagram_at c d) k → diagram_at c m.target ≡ sing_at (diagram_at c d) k → arrow_at c m.arrow ≡ fwd_at (diagram_at c d) k
+      → IsMapAt c (n - 1) m
+  fwd_leg zero k above h parts l p q r = absurd (omega arith)
+  fwd_leg (suc n) k above h parts l p q r =
+      let e : n ≡ suc n - 1 = omega arith in
+      let arrow_shape = subst (λ i. IsArrow i (fwd_at (diagram_at c d) k)) e (h.shape.fwds_are k l) in
+      leg_at (suc n - 1) k k (fwd_at (diagram_at c d) k) arrow_shape parts (omega arith) l p q r
+
+  pub bwd_leg : (n k : ℕ) → 0 < n → IsDiagramAt c n d → HasValidParts (n - 1) (diagram_at c d) → k < length (sings (diagram_at c d))
+      → diagram_at c m.source ≡ reg_at (diagram_at c d) (suc k) → diagram_at c m.target ≡ sing_at (diagram_at c d) k → arrow_at c m.arrow ≡ bwd_at (diagram_at c d) k
+      → IsMapAt c (n - 1) m
+  bwd_leg zero k above h parts l p q r = absurd (omega arith)
+  bwd_leg (suc n) k above h parts l p q r =
+      let e : n ≡ suc n - 1 = omega arith in
+      let arrow_shape = subst (λ i. IsArrow i (bwd_at (diagram_at c d) k)) e (h.shape.bwds_are k l) in
+      leg_at (suc n - 1) k (suc k) (bwd_at (diagram_at c d) k) arrow_shape parts (omega arith) l p q r
+
+  -- what was found in a leg
+  module _ (found : Option Place) (is : found ≡ first_failure (tests_between (diagram_at c m.source) (diagram_at c m.target) (arrow_at c m.arrow))) where
+    pub fwd_found : (k : ℕ) → diagram_at c m.source ≡ reg_at (diagram_at c d) k → diagram_at c m.target ≡ sing_at (diagram_at c d) k → arrow_at c m.arrow ≡ fwd_at (diagram_at c d) k
+        → option_map (place_in (step.F k)) found ≡ first_failure (fwd_tests (diagram_at c d) k)
+    fwd_found k p q r =
+        ap (option_map (place_in (step.F k))) (is ∙ (λ i. first_failure (tests_between (p i) (q i) (r i))))
+        ∙ sym (first_failure-under (step.F k) (tests_between (reg_at (diagram_at c d) k) (sing_at (diagram_at c d) k) (fwd_at (diagram_at c d) k)))
+
+    pub bwd_found : (k : ℕ) → diagram_at c m.source ≡ reg_at (diagram_at c d) (suc k) → diagram_at c m.target ≡ sing_at (diagram_at c d) k → arrow_at c m.arrow ≡ bwd_at (diagram_at c d) k
+        → option_map (place_in (step.B k)) found ≡ first_failure (bwd_tests (diagram_at c d) k)
+    bwd_found k p q r =
+        ap (option_map (place_in (step.B k))) (is ∙ (λ i. first_failure (tests_between (p i) (q i) (r i))))
+        ∙ sym (first_failure-under (step.B k) (tests_between (reg_at (diagram_at c d) (suc k)) (sing_at (diagram_at c d) k) (bwd_at (diagram_at c d) k)))

@@ -1,0 +1,191 @@
+ghost use Rattle.std.specs.Prelude.{◌≡◌, ◌+◌, ◌-◌, ◌<◌, ◌≤◌, IfOk, length, suc, Some, [], option_map};
+ghost use Rattle.diagram_terms.specs.Dual.{dual};
+ghost use Rattle.diagram_terms.specs.Places.{at_each, first_failure, here};
+ghost use Rattle.diagram_terms.specs.Tree.{heights, regs, sings};
+ghost use Rattle.hashcons.specs.Contents.{IsDiagramOf, IsArrowOf, Grows, IsStore, diagram_at, arrow_at};
+ghost use Rattle.zigzag_maps.specs.Keeps.{AreRight};
+ghost use Rattle.zigzag_maps.specs.Visits.{IsValidSlicewise, square_tests, square_holds, first_edge, last_edge, edge_before, edge_behind};
+
+use crate::composites::{composite, dual_from};
+use crate::faults::place_here;
+use crate::kept::Kept;
+use crate::map::Map;
+use diagram_terms::{End, Place};
+use hashcons::{ArrowId, Store};
+use std::alloc::{AllocError, Global};
+
+/// The first square that does not commute, of an arrow whose slices are valid.
+#[tactic(auto, using(crate::proofs::EdgeSteps::edges))]
+pub(crate) fn square_fault(
+    alloc: Global,
+    store: &mut Store,
+    kept: &mut Kept,
+    dim: usize,
+    f: &Map,
+) -> Result<Option<Place>, AllocError>
+    requires slicewise { IsValidSlicewise store.old dim f.now }
+    requires kept { AreRight store.old kept.old }
+    requires store { IsStore store.old }
+    ensures exact { IfOk result (λ found. found ≡ first_failure
+        (at_each (length (sings (diagram_at store.old f.now.target)))
+        (square_tests (diagram_at store.old f.now.source) (diagram_at store.old f.now.target) (arrow_at store.old f.now.arrow)))) }
+    ensures kept { AreRight store.new kept.new }
+    ensures grows { Grows store.old store.new }
+    ensures store { IsStore store.new }
+{
+    let mut from = 0;
+    for k in 0..store.length(f.target) {
+        let to = dual_from(store, f.arrow, from, k + 1);
+        let fibre = Fibre { over: k, from, to };
+        if !square_commutes(alloc, store, kept, dim, f, fibre)? {
+            return Ok(Some(place_here(alloc, End::Square(k))));
+        }
+        from = to;
+    }
+    Ok(None)
+}
+
+/// The heights of a source that go to the height `over` of the target: from `from` on, below `to`.
+#[derive(Clone, Copy)]
+struct Fibre {
+    over: usize,
+    from: usize,
+    to: usize,
+}
+
+/// Whether the square over a height commutes: whether each of its edges is the same along the
+/// target and through the heights before and behind it.
+#[tactic(auto, using(crate::proofs::EdgeSteps::edges))]
+fn square_commutes(
+    alloc: Global,
+    store: &mut Store,
+    kept: &mut Kept,
+    dim: usize,
+    f: &Map,
+    fibre: Fibre,
+) -> Result<bool, AllocError>
+    requires slicewise { IsValidSlicewise store.old dim f.now }
+    requires over { fibre.over < length (sings (diagram_at store.old f.now.target)) }
+    requires fits { fibre.over < usize.MAX }
+    requires from { fibre.from ≡ dual (heights (arrow_at store.old f.now.arrow)) fibre.over }
+    requires to { fibre.to ≡ dual (heights (arrow_at store.old f.now.arrow)) (fibre.over + 1) }
+    requires kept { AreRight store.old kept.old }
+    requires store { IsStore store.old }
+    ensures exact { IfOk result (λ commutes. commutes ≡ square_holds
+        (diagram_at store.old f.now.source) (diagram_at store.old f.now.target) (arrow_at store.old f.now.arrow) fibre.over) }
+    ensures kept { AreRight store.new kept.new }
+    ensures grows { Grows store.old store.new }
+    ensures store { IsStore store.new }
+{
+    let mut edge = first_edge(alloc, store, kept, dim, f, fibre.over)?;
+    for i in fibre.from..fibre.to {
+        let before = edge_before(alloc, store, kept, dim, f, i)?;
+        if before != edge {
+            return Ok(false);
+        }
+        edge = edge_behind(alloc, store, kept, dim, f, i)?;
+    }
+    let last = last_edge(alloc, store, kept, dim, f, fibre.over)?;
+    Ok(edge == last)
+}
+
+/// The edge along the target from the regular slice before the height `k`.
+#[tactic(auto, using(crate::proofs::EdgeSteps::edges))]
+fn first_edge(
+    alloc: Global,
+    store: &mut Store,
+    kept: &mut Kept,
+    dim: usize,
+    f: &Map,
+    k: usize,
+) -> Result<ArrowId, AllocError>
+    requires slicewise { IsValidSlicewise store.old dim f.now }
+    requires within { k < length (sings (diagram_at store.old f.now.target)) }
+    requires kept { AreRight store.old kept.old }
+    requires store { IsStore store.old }
+    ensures of_store { IfOk result (λ h. IsArrowOf store.new h) }
+    ensures tree { IfOk result (λ h. arrow_at store.new h ≡ first_edge (diagram_at store.old f.now.target) (arrow_at store.old f.now.arrow) k) }
+    ensures kept { AreRight store.new kept.new }
+    ensures grows { Grows store.old store.new }
+    ensures store { IsStore store.new }
+{
+    let leg = store.fwd(f.target, k);
+    let slice = store.arrow_reg(f.arrow, k);
+    composite(alloc, store, kept, dim - 1, leg, slice)
+}
+
+/// The edge along the target from the regular slice behind the height `k`.
+#[tactic(auto, using(crate::proofs::EdgeSteps::edges))]
+fn last_edge(
+    alloc: Global,
+    store: &mut Store,
+    kept: &mut Kept,
+    dim: usize,
+    f: &Map,
+    k: usize,
+) -> Result<ArrowId, AllocError>
+    requires slicewise { IsValidSlicewise store.old dim f.now }
+    requires within { k < length (sings (diagram_at store.old f.now.target)) }
+    requires fits { k < usize.MAX }
+    requires kept { AreRight store.old kept.old }
+    requires store { IsStore store.old }
+    ensures of_store { IfOk result (λ h. IsArrowOf store.new h) }
+    ensures tree { IfOk result (λ h. arrow_at store.new h ≡ last_edge (diagram_at store.old f.now.target) (arrow_at store.old f.now.arrow) k) }
+    ensures kept { AreRight store.new kept.new }
+    ensures grows { Grows store.old store.new }
+    ensures store { IsStore store.new }
+{
+    let leg = store.bwd(f.target, k);
+    let slice = store.arrow_reg(f.arrow, k + 1);
+    composite(alloc, store, kept, dim - 1, leg, slice)
+}
+
+/// The edge through the height `i` of the source from the regular slice before it.
+#[tactic(auto, using(crate::proofs::EdgeSteps::edges))]
+fn edge_before(
+    alloc: Global,
+    store: &mut Store,
+    kept: &mut Kept,
+    dim: usize,
+    f: &Map,
+    i: usize,
+) -> Result<ArrowId, AllocError>
+    requires slicewise { IsValidSlicewise store.old dim f.now }
+    requires within { i < length (heights (arrow_at store.old f.now.arrow)) }
+    requires kept { AreRight store.old kept.old }
+    requires store { IsStore store.old }
+    ensures of_store { IfOk result (λ h. IsArrowOf store.new h) }
+    ensures tree { IfOk result (λ h. arrow_at store.new h ≡ edge_before (diagram_at store.old f.now.source) (arrow_at store.old f.now.arrow) i) }
+    ensures kept { AreRight store.new kept.new }
+    ensures grows { Grows store.old store.new }
+    ensures store { IsStore store.new }
+{
+    let slice = store.arrow_sing(f.arrow, i);
+    let leg = store.fwd(f.source, i);
+    composite(alloc, store, kept, dim - 1, slice, leg)
+}
+
+/// The edge through the height `i` of the source from the regular slice behind it.
+#[tactic(auto, using(crate::proofs::EdgeSteps::edges))]
+fn edge_behind(
+    alloc: Global,
+    store: &mut Store,
+    kept: &mut Kept,
+    dim: usize,
+    f: &Map,
+    i: usize,
+) -> Result<ArrowId, AllocError>
+    requires slicewise { IsValidSlicewise store.old dim f.now }
+    requires within { i < length (heights (arrow_at store.old f.now.arrow)) }
+    requires kept { AreRight store.old kept.old }
+    requires store { IsStore store.old }
+    ensures of_store { IfOk result (λ h. IsArrowOf store.new h) }
+    ensures tree { IfOk result (λ h. arrow_at store.new h ≡ edge_behind (diagram_at store.old f.now.source) (arrow_at store.old f.now.arrow) i) }
+    ensures kept { AreRight store.new kept.new }
+    ensures grows { Grows store.old store.new }
+    ensures store { IsStore store.new }
+{
+    let slice = store.arrow_sing(f.arrow, i);
+    let leg = store.bwd(f.source, i);
+    composite(alloc, store, kept, dim - 1, slice, leg)
+}
