@@ -1,4 +1,3 @@
-mod LowNodes
 mod Looks
 mod Lines
 mod Runs

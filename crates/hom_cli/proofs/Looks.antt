@@ -1,66 +1,99 @@
 -- What `look` says of one diagram.
-use Rattle.std.proofs.Common.{◌≡◌, ℕ, zero, suc, ◌<◌, ◌≤◌, ◌^◌, List, length, map, Vec, Global, Option, Fits, w8, refl, sym, ap, ◌∙◌, subst, arith}
-use Rattle.std.proofs.lemmas.List.{length-map}
-use Rattle.diagram_terms.specs.declared.label.Label.{Label}
+use Rattle.std.proofs.Common.{◌≡◌, ℕ, zero, suc, ◌<◌, ◌≤◌, ◌^◌, List, length, get_or, Option, refl, sym, ap, ◌∙◌, subst, arith}
+use Rattle.std.proofs.lemmas.List.{get_or_default}
+use Rattle.std.proofs.lemmas.List.Elements.{All-get_or}
 use Rattle.diagram_terms.specs.declared.node.Node.{Node}
-use Rattle.diagram_terms.specs.declared.node.Sort.{Sort}
-use Rattle.diagram_terms.specs.declared.node.Sort.TheVariants as sort
 use Rattle.diagram_terms.specs.declared.place.Place.{Place}
-use Rattle.diagram_terms.specs.declared.tree.Arrow.{Arrow}
-use Rattle.diagram_terms.specs.declared.tree.Diagram.{Diagram}
-use Rattle.diagram_terms.specs.declared.tree.Diagram.TheVariants as diagram
-use Rattle.diagram_terms.specs.Tree.{Tree, sings, sings-zig}
+use Rattle.diagram_terms.specs.Tree.{Tree, sings}
 use Rattle.diagram_terms.specs.Family.{length_of}
 use Rattle.diagram_terms.specs.Decoded.{dia}
-use Rattle.diagram_terms.specs.Shape.{IsDiagram}
-use Rattle.diagram_terms.specs.Nodes.{AreNodes, tree_at, sort_at, dim_of}
+use Rattle.diagram_terms.specs.Tree.{label_at}
+use Rattle.diagram_terms.specs.Shape.{IsDiagram, IsArrow}
 use Rattle.diagram_terms.specs.Places.{first_bad_place}
-use Rattle.diagram_terms.specs.Values.{tree_of_diagram, trees_of_diagrams}
+use Rattle.diagram_terms.specs.Dimension.{dimension_of}
+use Rattle.diagram_terms.specs.Nodes.{AreNodes, tree_at, sort_at, dim_of, greatest_dim}
+use Rattle.diagram_terms.proofs.Dimensions.{diagram_dimension}
 use Rattle.diagram_terms.proofs.Glue.{dia-sings_len}
-use Rattle.diagram_terms.proofs.NodeShapes.{diagram_at}
-use Rattle.diagram_terms.proofs.ValueLemmas.{tree_of_diagram-Zig, diagram_at_zero, diagram_above}
+use Rattle.diagram_terms.proofs.NodeShapes.{diagram_at, dim_of-sort_at}
+use Rattle.diagram_terms.proofs.Shapes.{one_kind}
+use Rattle.hashcons.specs.declared.id.AnyId.{AnyId}
+use Rattle.hashcons.specs.declared.id.AnyId.TheVariants as id
+use Rattle.hashcons.proofs.PickLemmas.{length-sings_point}
+use Rattle.hashcons.specs.Contents.{Contents, IsStore}
+use Rattle.hashcons.specs.Contents as store
+use Rattle.hashcons.specs.Ids.{GathersIds, IsOf, IsDiagramId, id_at, tree_of}
 use Rattle.workspace_json.specs.declared.document.DiagramEntry.{DiagramEntry}
+use Rattle.workspace_json.specs.declared.document.Document.{Document}
+use Rattle.workspace_json.specs.Documents.{IsDocument, IsDiagramPlace}
 use Rattle.workspace_json.specs.declared.reply.Reply.{Reply}
 use Rattle.workspace_json.specs.declared.reply.Reply.TheVariants.{Look}
-use Rattle.hom_cli.specs.Full.{look_reply, looked_at}
-use Rattle.workspace_json.specs.Documents.{IsLowPlace}
-use Rattle.hom_cli.specs.Places.{StandsAt}
-use Rattle.hom_cli.proofs.LowNodes.{LowDim, low_dim}
+use Rattle.hom_cli.specs.Full.{looked_at, tree_reply, look_reply}
 
--- ---- the length of a value
+-- the length of a diagram by its tree
+pub tree_length : (d : ℕ) (t : Tree) → IsDiagram d t → length (sings t) ≡ length_of d (dia d t)
+tree_length zero t h = ap (λ (u : Tree). length (sings u)) h ∙ length-sings_point (label_at t)
+tree_length (suc d) t h = sym (dia-sings_len d t)
 
-pub zero_length : (a : Diagram) (x : Label) → a ≡ diagram.Zero x → (n : ℕ) → IsDiagram n (tree_of_diagram a) → 0 ≡ length_of n (dia n (tree_of_diagram a))
-zero_length a x e zero h = refl
-zero_length a x e (suc n) h = absurd (omega (arith, diagram_at_zero (suc n) a x e h))
+pub looked : (name : List ℕ) (t : Tree) (d len : ℕ) (at : Option Place) → IsDiagram d t → len ≡ length (sings t)
+    → at ≡ first_bad_place (dimension_of t) (dia (dimension_of t) t) → Look d len name at ≡ tree_reply name t
+looked name t d len at shape len_is at_is =
+    let e : dimension_of t ≡ d = diagram_dimension d t shape in
+    let q : len ≡ length_of d (dia d t) = len_is ∙ tree_length d t shape in
+    let r : at ≡ first_bad_place d (dia d t) = at_is ∙ ap (λ (n : ℕ). first_bad_place n (dia n t)) e in
+    (λ i. Look d (q i) name (r i)) ∙ ap (λ (n : ℕ). looked_at name n (dia n t)) (sym e)
 
-pub zig_length : (a : Diagram) (rs ss : Vec Diagram Global) (fs bs : Vec Arrow Global) → a ≡ diagram.Zig rs ss fs bs → (n : ℕ)
-    → IsDiagram n (tree_of_diagram a) → length ss.items ≡ length_of n (dia n (tree_of_diagram a))
-zig_length a rs ss fs bs e zero h = absurd (let p = diagram_above zero a rs ss fs bs e h in omega (arith, p.above))
-zig_length a rs ss fs bs e (suc n) h =
-    let t : tree_of_diagram a ≡ _ = ap tree_of_diagram e ∙ tree_of_diagram-Zig rs ss fs bs in
-    sym (dia-sings_len n (tree_of_diagram a) ∙ ap (λ (u : Tree). length (sings u)) t ∙ ap length (sings-zig _ _ _ _) ∙ length-map ss.items tree_of_diagram)
+-- ---- the diagram at a place
 
--- ---- the reply
+module _ (nodes : List Node) (form : AreNodes nodes) (c : Contents) (ids : List AnyId) (of : GathersIds c ids (length nodes) (tree_at nodes))
+    (is_store : IsStore c) (place : ℕ) (at : IsDiagramPlace nodes place) where
+  pub place_within : place < length ids
+  place_within = let l = of.len in let w = at.within in omega arith
 
-module _ (nodes : List Node) (form : AreNodes nodes) (entry : DiagramEntry) (low : LowDim nodes entry.root) (t : Tree) (is : t ≡ tree_at nodes entry.root) where
-  pub low_shape : IsDiagram low.dim t
-  low_shape = subst (IsDiagram low.dim) (sym is) (diagram_at nodes form entry.root low.dim low.at.within low.at.stands)
+  place_shape : IsDiagram at.dim (tree_at nodes place)
+  place_shape = diagram_at nodes form place at.dim at.within at.stands
 
-  pub small_dim : (k : ℕ) → ((n : ℕ) → n < 2 ^ 64 → IsDiagram n t → k ≡ n) → Fits w8 k
-  small_dim k dim_is =
-      let l = low.low in
-      let small : low.dim < 2 ^ 64 = omega arith in
-      let e = dim_is low.dim small low_shape in omega arith
+  kind : (x : AnyId) → IsOf c x → tree_of c x ≡ tree_at nodes place → IsDiagramId x
+  kind (id.Diagram d) l e = tt
+  kind (id.Arrow a) l e = absurd (one_kind at.dim (dimension_of (store.arrow_at c a)) (tree_at nodes place) place_shape (subst (IsArrow (dimension_of (store.arrow_at c a))) e (is_store.arrows a l)))
 
-  pub looked : (k len : ℕ) (at : Option Place) → ((n : ℕ) → n < 2 ^ 64 → IsDiagram n t → k ≡ n) → ((n : ℕ) → IsDiagram n t → len ≡ length_of n (dia n t))
-      → ((n : ℕ) → IsDiagram n t → at ≡ first_bad_place n (dia n t)) → Look k len entry.name at ≡ look_reply nodes entry
-  looked k len at dim_is len_is at_is =
-      let l = low.low in
-      let d : ℕ = low.dim in
-      let small : d < 2 ^ 64 = omega arith in
-      let p : k ≡ d = dim_is d small low_shape in
-      let q : len ≡ length_of d (dia d t) = len_is d low_shape in
-      let r : at ≡ first_bad_place d (dia d t) = at_is d low_shape in
-      let here : Look k len entry.name at ≡ looked_at entry.name d (dia d t) = (λ i. Look (p i) (q i) entry.name (r i)) in
-      let s : d ≡ dim_of (sort_at nodes entry.root) = ap dim_of (sym low.at.stands) in
-      here ∙ ap (λ (u : Tree). looked_at entry.name d (dia d u)) is ∙ ap (λ (m : ℕ). looked_at entry.name m (dia m (tree_at nodes entry.root))) s
+  place_kind : IsDiagramId (id_at ids place)
+  place_kind = kind (id_at ids place) (of.of_store place at.within) (of.are place at.within)
+
+  read_id : (x : AnyId) → x ≡ get_or ids place x → x ≡ id_at ids place
+  read_id x is = is ∙ get_or_default ids place x (id.Diagram 0) place_within
+
+  pub read_kind : (x : AnyId) → x ≡ get_or ids place x → IsDiagramId x
+  read_kind x is = subst IsDiagramId (sym (read_id x is)) place_kind
+
+  pub place_dim : dimension_of (tree_at nodes place) ≤ greatest_dim
+  place_dim =
+      let e = diagram_dimension at.dim (tree_at nodes place) place_shape in
+      let s = ap dim_of at.stands in
+      let l = dim_of-sort_at nodes form place at.within in
+      omega arith
+
+-- ---- the entry that a loop has come to
+
+pub entry_place : (document : Document) → IsDocument document → (i : ℕ) (entry : DiagramEntry) → i < length document.diagrams
+    → entry ≡ get_or document.diagrams i entry → IsDiagramPlace document.nodes entry.root
+entry_place document form i entry l is =
+    subst (λ (e : DiagramEntry). IsDiagramPlace document.nodes e.root) (sym is)
+    (All-get_or (λ (e : DiagramEntry). IsDiagramPlace document.nodes e.root) document.diagrams i entry l form.diagrams)
+
+module _ (nodes : List Node) (form : AreNodes nodes) (old : Contents) (ids : List AnyId) (of : GathersIds old ids (length nodes) (tree_at nodes))
+    (is_store : IsStore old) (entry : DiagramEntry) (at : IsDiagramPlace nodes entry.root) (x : AnyId) (d : ℕ)
+    (is : x ≡ get_or ids entry.root x) (names : x ≡ id.Diagram d) where
+  named : id_at ids entry.root ≡ id.Diagram d
+  named = sym (read_id nodes form old ids of is_store entry.root at x is) ∙ names
+
+  pub entry_of_store : store.IsDiagramOf old d
+  entry_of_store = subst (IsOf old) named (of.of_store entry.root at.within)
+
+  entry_tree : store.diagram_at old d ≡ tree_at nodes entry.root
+  entry_tree = ap (tree_of old) (sym named) ∙ of.are entry.root at.within
+
+  pub entry_dim : dimension_of (store.diagram_at old d) ≤ greatest_dim
+  entry_dim = subst (λ (t : Tree). dimension_of t ≤ greatest_dim) (sym entry_tree) (place_dim nodes form old ids of is_store entry.root at)
+
+  pub entry_reply : (reply : Reply) → reply ≡ tree_reply entry.name (store.diagram_at old d) → reply ≡ look_reply nodes entry
+  entry_reply reply e = e ∙ ap (tree_reply entry.name) entry_tree

@@ -3,7 +3,7 @@ use Rattle.std.proofs.Common.{◌≡◌, ℕ, ◌+◌, ◌<◌, ◌≤◌, Bool,
 use Rattle.std.specs.Prelude.{nat_lt}
 use Rattle.std.proofs.lemmas.Bool.{lt-ltb, le-ltb}
 use Rattle.std.proofs.KnownBytes.{Appends-nil}
-use Rattle.workspace_json.specs.Reading.{low_document}
+use Rattle.workspace_json.specs.Reading.{exact_document}
 use Rattle.hom_cli.specs.declared.status.Status.{Status}
 use Rattle.hom_cli.specs.declared.status.Status.TheVariants as status
 use Rattle.hom_cli.specs.Full.{full, look, is_look, input_limit, Writes}
@@ -21,8 +21,8 @@ writes_too_long words bytes old is long = rw (← is, lt-ltb input_limit (length
 
 -- `look` on the bytes that were read
 pub writes_look : (words : List (List ℕ)) (taken bytes : List ℕ) (s : Status) (old new : Option (List ℕ)) → true ≡ is_look words → length taken ≤ input_limit
-    → bytes ≡ taken → Writes (look (low_document bytes)) s old new → Writes (full words taken) s old new
+    → bytes ≡ taken → Writes (look (exact_document bytes)) s old new → Writes (full words taken) s old new
 unfolding full
 writes_look words taken bytes s old new is short same wrote =
-    let wrote_taken : Writes (look (low_document taken)) s old new = subst (λ (b : List ℕ). Writes (look (low_document b)) s old new) same wrote in
+    let wrote_taken : Writes (look (exact_document taken)) s old new = subst (λ (b : List ℕ). Writes (look (exact_document b)) s old new) same wrote in
     rw (← is, le-ltb input_limit (length taken) short) wrote_taken

@@ -6,14 +6,16 @@ use Rattle.io_edge.specs.Transfers.{AppendsPrefix}
 use Rattle.diagram_terms.specs.declared.node.Node.{Node}
 use Rattle.diagram_terms.specs.Family.{Dia, length_of}
 use Rattle.diagram_terms.specs.Decoded.{dia}
-use Rattle.diagram_terms.specs.Nodes.{tree_at, sort_at, dim_of}
+use Rattle.diagram_terms.specs.Tree.{Tree}
+use Rattle.diagram_terms.specs.Dimension.{dimension_of}
+use Rattle.diagram_terms.specs.Nodes.{tree_at}
 use Rattle.diagram_terms.specs.Places.{first_bad_place}
 use Rattle.workspace_json.specs.declared.document.DiagramEntry.{DiagramEntry}
 use Rattle.workspace_json.specs.declared.document.Document.{Document}
 use Rattle.workspace_json.specs.declared.fault.FormFault.{FormFault}
 use Rattle.workspace_json.specs.declared.reply.Reply.{Reply}
 use Rattle.workspace_json.specs.declared.reply.Reply.TheVariants.{Look}
-use Rattle.workspace_json.specs.Reading.{low_document}
+use Rattle.workspace_json.specs.Reading.{exact_document}
 use Rattle.workspace_json.specs.Replies.{text_of_reply, text_of_fault}
 use Rattle.hom_cli.specs.declared.status.Status.{Status}
 use Rattle.hom_cli.specs.declared.status.Status.TheVariants as status
@@ -39,8 +41,11 @@ is_look words = false
 abbrev pub looked_at : List ℕ → (d : ℕ) → Dia d → Reply
 looked_at name d X = Look d (length_of d X) name (first_bad_place d X)
 
+abbrev pub tree_reply : List ℕ → Tree → Reply
+tree_reply name t = looked_at name (dimension_of t) (dia (dimension_of t) t)
+
 abbrev pub look_reply : List Node → DiagramEntry → Reply
-look_reply nodes entry = let d = dim_of (sort_at nodes entry.root) in looked_at entry.name d (dia d (tree_at nodes entry.root))
+look_reply nodes entry = tree_reply entry.name (tree_at nodes entry.root)
 
 -- whether a reply is a yes
 abbrev pub is_yes : Reply → Bool
@@ -62,7 +67,7 @@ look (Err fault) = record { text = line (text_of_fault fault); status = status.F
 unfoldable pub full : List (List ℕ) → List ℕ → Run
 full words bytes =
     if is_look words
-    then (if nat_lt input_limit (length bytes) then record { text = []; status = status.TooLong } else look (low_document bytes))
+    then (if nat_lt input_limit (length bytes) then record { text = []; status = status.TooLong } else look (exact_document bytes))
     else record { text = []; status = status.Usage }
 
 -- What was written and which status: those of the full run; nothing where reading failed; or a part of the text, from

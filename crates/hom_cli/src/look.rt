@@ -2,51 +2,66 @@ ghost use Rattle.std.specs.Prelude.{◌≡◌, ◌≢◌, ◌≤◌, ℕ, Ok, On
 ghost use Rattle.std.specs.Io.KnownBytes.{Appends};
 ghost use Rattle.io_edge.specs.Counts.{Rose};
 ghost use Rattle.io_edge.specs.Transfers.{AppendsPrefix};
-ghost use Rattle.diagram_terms.specs.Decoded.{dia};
-ghost use Rattle.diagram_terms.specs.Family.{length_of};
-ghost use Rattle.diagram_terms.specs.Nodes.{AreNodes};
-ghost use Rattle.diagram_terms.specs.Shape.{IsDiagram};
-ghost use Rattle.diagram_terms.specs.Values.{tree_of_diagram};
-ghost use Rattle.workspace_json.specs.Documents.{IsDocument, IsLow, IsLowPlace};
-ghost use Rattle.workspace_json.specs.Reading.{low_document};
+ghost use Rattle.diagram_terms.specs.Dimension.{dimension_of};
+ghost use Rattle.diagram_terms.specs.Nodes.{greatest_dim};
+ghost use Rattle.hashcons.specs.Contents.{IsDiagramOf, Grows, IsStore, diagram_at};
+ghost use Rattle.hashcons.specs.Ids.{IsDiagramId};
+ghost use Rattle.workspace_json.specs.Documents.{IsDocument};
+ghost use Rattle.workspace_json.specs.Reading.{exact_document};
 ghost use Rattle.workspace_json.specs.Replies.{text_of_fault};
-ghost use Rattle.hom_cli.specs.Full.{look as look_run, look_reply, is_yes as is_yes_lem, line, Writes};
+ghost use Rattle.zigzag_maps.specs.Visits.{fault_of};
+ghost use Rattle.hom_cli.specs.Full.{look as look_run, tree_reply, is_yes as is_yes_lem, line, Writes};
 
 use crate::status::Status;
-use crate::unshared::diagram_at;
-use diagram_terms::{Diagram, Node, Text, dimension, first_bad_square};
+use diagram_terms::{Place, Text};
+use hashcons::{AnyId, DiagramId, Store};
 use io_edge::{Sink, WriteAllFault, write_all};
 use std::alloc::{AllocError, Global};
-use workspace_json::{
-    DiagramEntry, Document, FormFault, Reply, form_text, read_document, reply_text,
-};
+use workspace_json::{Document, FormFault, Reply, form_text, read_document, reply_text};
+use zigzag_maps::{SquareTest, valid};
 
-/// How many singular heights a diagram has.
-fn length(diagram: &Diagram) -> usize
-    ensures { (n : ℕ) → IsDiagram n (tree_of_diagram diagram.now)
-        → result ≡ length_of n (dia n (tree_of_diagram diagram.now)) }
+/// The first place where a diagram is not valid, where the test found one.
+fn place_of(test: SquareTest) -> Option<Place>
+    ensures { result ≡ fault_of test }
 {
-    match diagram {
-        Diagram::Zero(_) => 0,
-        Diagram::Zig { sings, .. } => sings.len(),
+    match test {
+        SquareTest::Valid => None,
+        SquareTest::Fault(place) => Some(place),
     }
 }
 
-/// What `look` says of one entry.
-fn looked_at(alloc: Global, nodes: &[Node], entry: &DiagramEntry) -> Result<Reply, AllocError>
-    requires form { AreNodes nodes.now }
-    requires place { IsLowPlace nodes.now entry.now.root }
-    ensures { IfOk result (λ reply. reply ≡ look_reply nodes.now entry.now) }
+/// What `look` says of a diagram of the store.
+fn looked_at(
+    alloc: Global,
+    store: &mut Store,
+    diagram: DiagramId,
+    name: &Text,
+) -> Result<Reply, AllocError>
+    requires of_store { IsDiagramOf store.old diagram }
+    requires dim { dimension_of (diagram_at store.old diagram) ≤ greatest_dim }
+    ensures reply { IfOk result (λ reply. reply ≡ tree_reply name.now (diagram_at store.old diagram)) }
+    ensures grows { Grows store.old store.new }
+    ensures store { IsStore store.new }
 {
-    let diagram = diagram_at(alloc, nodes, entry.root)?;
-    let at = first_bad_square(alloc, &diagram)?;
-    let name = Text::from_string(String::from_str(alloc, entry.name.as_str())?);
+    let at = place_of(valid(alloc, store, diagram)?);
+    let name = Text::from_string(String::from_str(alloc, name.as_str())?);
     Ok(Reply::Look {
-        dim: dimension(&diagram) as u8,
-        length: length(&diagram),
+        dim: store.dim(AnyId::Diagram(diagram)) as u8,
+        length: store.length(diagram),
         name,
         at,
     })
+}
+
+/// The diagram that an id stands for.
+fn diagram_of(id: AnyId) -> DiagramId
+    requires { IsDiagramId id }
+    ensures { id ≡ AnyId.Diagram result }
+{
+    match id {
+        AnyId::Diagram(diagram) => diagram,
+        AnyId::Arrow(_) => unreachable!(),
+    }
 }
 
 fn is_yes(reply: &Reply) -> bool
@@ -77,8 +92,7 @@ fn write_looks<K: Sink>(
     document: &Document,
     output: &mut K,
 ) -> Result<Status, WriteAllFault>
-    requires form { IsDocument document.now }
-    requires low { IsLow document.now }
+    requires { IsDocument document.now }
     ensures ok { IfOk result (λ status. status ≡ (look_run (Ok document.now)).status) }
     ensures wrote { OnOk result
         (Appends (K.written output.old) (K.written output.new) (look_run (Ok document.now)).text) }
@@ -88,10 +102,12 @@ fn write_looks<K: Sink>(
     ensures cause { IsErrOf result WriteAllFault.WriteFault
         → Rose (K.faults output.old) (K.faults output.new) }
 {
-    let nodes = document.nodes.as_slice();
+    let mut store = Store::new(alloc);
+    let ids = store.put_nodes(document.nodes.as_slice())?;
     let mut status = Status::Done;
     for entry in document.diagrams.as_slice() {
-        let reply = looked_at(alloc, nodes, entry)?;
+        let diagram = diagram_of(ids[entry.root]);
+        let reply = looked_at(alloc, &mut store, diagram, &entry.name)?;
         write_line(output, reply_text(alloc, &reply)?)?;
         if !is_yes(&reply) {
             status = Status::Refused;
@@ -135,7 +151,7 @@ fn status_of(wrote: Result<Status, WriteAllFault>) -> Status
 
 /// `look` on the bytes of a document: a line for each of its diagrams, or the line of its fault.
 pub(crate) fn look<K: Sink>(alloc: Global, bytes: &[u8], output: &mut K) -> Status
-    ensures writes { Writes (look_run (low_document bytes.now)) result
+    ensures writes { Writes (look_run (exact_document bytes.now)) result
         (K.written output.old) (K.written output.new) }
     ensures later { K.faults output.old ≤ K.faults output.new }
     ensures cause { result ≡ Status.WriteFault → Rose (K.faults output.old) (K.faults output.new) }

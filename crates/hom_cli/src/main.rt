@@ -6,7 +6,6 @@ ghost use Rattle.std.specs.Prelude.{◌≡◌, ◌⊎◌, IfErr};
 mod look;
 mod program;
 mod status;
-mod unshared;
 
 use crate::program::run;
 use crate::status::Status;

@@ -1,5 +1,5 @@
 -- A document that was read has the form.
-use Rattle.std.proofs.Common.{◌≡◌, ℕ, List, [], ◌++◌, codes, Ok, subst}
+use Rattle.std.proofs.Common.{◌≡◌, ℕ, List, [], ◌++◌, codes, Result, Ok, Err, IfOk, sym, subst}
 use Rattle.std.specs.Prelude.{option_and_then}
 use Rattle.serde_json.specs.Data.{Data}
 use Rattle.serde_json.specs.Find.{get}
@@ -7,8 +7,9 @@ use Rattle.diagram_terms.specs.declared.node.Node.{Node}
 use Rattle.diagram_terms.specs.Nodes.{sorts_of, AreNodes}
 use Rattle.workspace_json.specs.declared.document.Document.{Document}
 use Rattle.workspace_json.specs.declared.fault.Field.TheVariants as field
+use Rattle.workspace_json.specs.declared.fault.FormFault.{FormFault}
 use Rattle.workspace_json.specs.declared.fault.FormFault.TheVariants as fault
-use Rattle.workspace_json.specs.Step.{◌>>=◌, when, or_fault}
+use Rattle.workspace_json.specs.Step.{◌>>=◌, when, or_fault, Gives}
 use Rattle.workspace_json.specs.Json.{json_of, has_keys, whole_of, list_at}
 use Rattle.workspace_json.specs.Names.{is_among}
 use Rattle.workspace_json.specs.NodeForms.{nodes_in}
@@ -53,3 +54,14 @@ document_keeps d document is =
 
 pub exact_is_document : (bytes : List ℕ) (document : Document) → exact_document bytes ≡ Ok document → IsDocument document
 exact_is_document bytes document is = let g = gave (or_fault fault.NotJson (json_of bytes)) document_of document is in document_keeps g.value document g.then
+
+-- so a call that gives it, unless memory runs out, answers a document of the form
+pub form_given : (bytes : List ℕ) (answer : Result Document FormFault) → Gives (λ (d : Document). d) answer (exact_document bytes) → IfOk answer IsDocument
+form_given bytes (Ok document) given = exact_is_document bytes document given
+form_given bytes (Err e) given = tt
+
+-- what is given of the value that the bytes are is given of the bytes
+pub given_of_bytes : (bytes : List ℕ) (d : Data) (answer : Result Document FormFault) → or_fault fault.NotJson (json_of bytes) ≡ Ok d
+    → Gives (λ (x : Document). x) answer (document_of d) → Gives (λ (x : Document). x) answer (exact_document bytes)
+given_of_bytes bytes d answer is given =
+    subst (λ (r : Result Data FormFault). Gives (λ (x : Document). x) answer (r >>= document_of)) (sym is) given

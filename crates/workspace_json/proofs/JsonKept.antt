@@ -10,7 +10,7 @@ use Rattle.workspace_json.specs.declared.document.Document.{Document}
 use Rattle.workspace_json.specs.declared.fault.Field.TheVariants as field
 use Rattle.workspace_json.specs.declared.fault.FormFault.{FormFault}
 use Rattle.workspace_json.specs.declared.fault.FormFault.TheVariants as fault
-use Rattle.workspace_json.specs.Step.{◌>>=◌, when, or_fault, each}
+use Rattle.workspace_json.specs.Step.{◌>>=◌, when, or_fault, each, Gives}
 use Rattle.workspace_json.specs.Json.{json_of, has_keys, whole_of, number_at, text_at, list_at, numbers_at}
 use Rattle.workspace_json.specs.Names.{is_good_name, is_among, also}
 use Rattle.workspace_json.specs.NodeForms.{label_in, labels_in, label_node, labels_node, diagram_node, arrow_node, form_of, written_at, sort_behind, node_at, nodes_in}
@@ -169,3 +169,10 @@ no_json_at (Some d) is = absurd (let P : Result Document FormFault → Type 0 = 
 
 pub exact_no_json : (bytes : List ℕ) → exact_document bytes ≡ Err fault.NotJson → json_of bytes ≡ None
 exact_no_json bytes is = no_json_at (json_of bytes) is
+
+-- so a call that gives it answers `NotJson` only where the bytes are not JSON
+pub no_json_given : (bytes : List ℕ) (answer : Result Document FormFault) → Gives (λ (d : Document). d) answer (exact_document bytes)
+    → answer ≡ Err fault.NotJson → json_of bytes ≡ None
+no_json_given bytes answer given is =
+    let there : Gives (λ (d : Document). d) (Err fault.NotJson) (exact_document bytes) = subst (λ (r : Result Document FormFault). Gives (λ (d : Document). d) r (exact_document bytes)) is given in
+    exact_no_json bytes there

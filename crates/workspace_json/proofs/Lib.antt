@@ -8,7 +8,6 @@ mod Passed
 mod NodesKept
 mod EntriesKept
 mod DocumentsKept
-mod LowKept
 mod JsonKept
 mod Samples
 mod SampleDocuments

@@ -8,7 +8,7 @@ use Rattle.workspace_json.specs.declared.document.Document.{Document}
 use Rattle.workspace_json.specs.declared.fault.FormFault.TheVariants as fault
 use Rattle.workspace_json.specs.NodeForms.{node_at}
 use Rattle.workspace_json.specs.Entries.{generator_entry, diagram_entry, map_entry, generator_at, diagram_at, map_at}
-use Rattle.workspace_json.specs.Reading.{entries_of, document_of, exact_document, low_document}
+use Rattle.workspace_json.specs.Reading.{entries_of, document_of, exact_document, exact_document}
 
 abbrev cell : ℕ → ℕ → Label
 cell n d = record { number = n; dim = d }
@@ -25,7 +25,7 @@ loop = record {
   nodes = node.Label (cell 0 0) ∷ node.Label (cell 1 1) ∷ node.Labels (cell 0 0) (cell 1 1) ∷ node.Diagram (0 ∷ 0 ∷ []) (1 ∷ []) (2 ∷ []) (2 ∷ []) ∷ [];
 }
 
-reads_loop : low_document loop_text ≡ Ok loop
+reads_loop : exact_document loop_text ≡ Ok loop
 unfolding is_utf8 chars serde_json_on_literals node_at generator_entry diagram_entry map_entry generator_at diagram_at map_at entries_of document_of
 reads_loop = refl
 
@@ -42,10 +42,6 @@ reads_map : exact_document map_text ≡ Ok (record {
 unfolding is_utf8 chars serde_json_on_literals node_at generator_entry diagram_entry map_entry generator_at diagram_at map_at entries_of document_of
 reads_map = refl
 
-comes_later : low_document map_text ≡ Err fault.Later
-unfolding is_utf8 chars serde_json_on_literals node_at generator_entry diagram_entry map_entry generator_at diagram_at map_at entries_of document_of
-comes_later = refl
-
-is_no_json : low_document (codes "{\"diagrams\":[{\"name\":\"F\",\"root\"") ≡ Err fault.NotJson
+is_no_json : exact_document (codes "{\"diagrams\":[{\"name\":\"F\",\"root\"") ≡ Err fault.NotJson
 unfolding is_utf8 chars serde_json_on_literals
 is_no_json = refl

@@ -8,7 +8,6 @@ use Rattle.workspace_json.specs.declared.document.Document.{Document}
 use Rattle.workspace_json.specs.declared.document.MapEntry.{MapEntry}
 use Rattle.workspace_json.specs.Names.{is_good_name}
 use Rattle.workspace_json.specs.Entries.{generator_names, diagram_names, map_names}
-use Rattle.workspace_json.specs.Reading.{is_low_node}
 
 -- a diagram of some dimension stands at the place
 pub record IsDiagramPlace (nodes : List Node) (i : ℕ) : Type 0 where
@@ -55,16 +54,3 @@ pub record IsDocument (document : Document) : Type 0 where
   pub diagrams : All (λ e. IsDiagramPlace document.nodes e.root) document.diagrams
   pub maps : All (IsMapEntry document.nodes) document.maps
   pub names : AreNames (names_of document)
-
--- a diagram of dimension 0 or 1 stands at the place
-pub record IsLowPlace (nodes : List Node) (i : ℕ) : Type 0 where
-  pub within : i < length nodes
-  pub stands : (sort_at nodes i ≡ sort.Diagram 0) ⊎ (sort_at nodes i ≡ sort.Diagram 1)
-
--- no generators, no maps, and each node a label, a pair of labels or a diagram whose regular slices are labels, so that
--- the diagrams have dimension 0 or 1
-pub record IsLow (document : Document) : Type 0 where
-  pub generators : document.generators ≡ []
-  pub maps : document.maps ≡ []
-  pub nodes : All (λ n. is_low_node document.nodes n ≡ true) document.nodes
-  pub diagrams : All (λ e. IsLowPlace document.nodes e.root) document.diagrams

@@ -1,10 +1,8 @@
 -- Which document some bytes are, or which form fault they have: the first failure in the order decides.
 use Rattle.std.specs.Prelude.{ℕ, List, [], ◌∷◌, ◌++◌, codes, Bool, true, false, ◌&&◌, ◌==◌, if◌then◌else◌, Option, Some, None, option_and_then, Result, Ok, Err}
-use Rattle.std.specs.List.{list_all, slice_get}
 use Rattle.serde_json.specs.Data.{Data}
 use Rattle.serde_json.specs.Find.{get}
 use Rattle.diagram_terms.specs.declared.node.Node.{Node}
-use Rattle.diagram_terms.specs.declared.node.Node.TheVariants as node
 use Rattle.diagram_terms.specs.Nodes.{sorts_of}
 use Rattle.workspace_json.specs.declared.fault.Field.{Field}
 use Rattle.workspace_json.specs.declared.fault.Field.TheVariants as field
@@ -52,40 +50,3 @@ document_of d = do
 -- the document that the bytes are, with the fault of each text that is none
 abbrev pub exact_document : List ℕ → Result Document FormFault
 exact_document bytes = or_fault fault.NotJson (json_of bytes) >>= document_of
-
--- ---- documents of dimension 0 and 1
-
--- what stands at a place is a label
-abbrev pub is_label : Option Node → Bool
-is_label None = false
-is_label (Some (node.Label x)) = true
-is_label (Some (node.Diagram rs ss fs bs)) = false
-is_label (Some (node.Labels x y)) = false
-is_label (Some (node.Arrow hs rs ss)) = false
-
--- a label, a pair of labels, or a diagram whose regular slices are labels
-abbrev pub is_low_node : List Node → Node → Bool
-is_low_node nodes (node.Label x) = true
-is_low_node nodes (node.Diagram rs ss fs bs) = list_all (λ i. is_label (slice_get nodes i)) rs
-is_low_node nodes (node.Labels x y) = true
-is_low_node nodes (node.Arrow hs rs ss) = false
-
--- an empty list
-abbrev pub is_nothing : {A : Type 0} → List A → Bool
-is_nothing [] = true
-is_nothing (x ∷ xs) = false
-
--- no generators, no maps, and only such nodes
-abbrev pub is_low : Document → Bool
-is_low document =
-    is_nothing document.generators && is_nothing document.maps && list_all (is_low_node document.nodes) document.nodes
-
--- Every other JSON text comes later, whatever its fault is.
-abbrev pub later : Result Document FormFault → Result Document FormFault
-later (Ok document) = if is_low document then Ok document else Err fault.Later
-later (Err fault.NotJson) = Err fault.NotJson
-later (Err e) = Err fault.Later
-
--- the document of dimension 0 and 1 that the bytes are
-abbrev pub low_document : List ℕ → Result Document FormFault
-low_document bytes = later (exact_document bytes)

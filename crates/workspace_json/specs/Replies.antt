@@ -49,7 +49,6 @@ node_fault n w = object (member (codes "node") (whole n) (member (codes "refused
 -- Want of memory has no text.
 abbrev pub fault_data : FormFault → Data
 fault_data fault.NotJson = object (member (codes "refused") (word (codes "NotJson")) no_members)
-fault_data fault.Later = object (member (codes "refused") (word (codes "Later")) no_members)
 fault_data (fault.Form f None) =
     object (member (codes "field") (word (word_of f)) (member (codes "refused") (word (codes "Form")) no_members))
 fault_data (fault.Form f (Some n)) =

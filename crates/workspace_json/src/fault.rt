@@ -19,8 +19,6 @@ pub enum Field {
 pub enum FormFault {
     /// They are not JSON.
     NotJson,
-    /// They are no document of dimension 0 and 1.
-    Later,
     /// A field has a wrong form: as a whole, or in this entry of its list.
     Form { field: Field, entry: Option<usize> },
     /// The node at this place has a wrong form.

@@ -1,11 +1,10 @@
 ghost use Rattle.std.specs.Prelude.{◌≡◌, IfOk, Err, None, codes, option_and_then};
-ghost use Rattle.std.specs.List.{list_all, slice_get};
 ghost use Rattle.serde_json.specs.Find.{get};
 ghost use Rattle.serde_json.specs.View.{view};
 ghost use Rattle.workspace_json.specs.Step.{Gives};
 ghost use Rattle.workspace_json.specs.Json.{json_of, whole_of};
-ghost use Rattle.workspace_json.specs.Documents.{IsDocument, IsLow};
-ghost use Rattle.workspace_json.specs.Reading.{is_one, is_label, is_low_node, is_low, entries_of, document_of, exact_document, low_document};
+ghost use Rattle.workspace_json.specs.Documents.{IsDocument};
+ghost use Rattle.workspace_json.specs.Reading.{is_one, entries_of, document_of, exact_document};
 ghost use Rattle.diagram_terms.specs.Nodes.{sorts_of};
 
 use crate::document::Document;
@@ -13,7 +12,6 @@ use crate::entries::{diagrams_in, generators_in, maps_in};
 use crate::fault::{Field, FormFault};
 use crate::json::{keyed, list_at, value_of};
 use crate::nodes::{Nodes, nodes_in};
-use diagram_terms::Node;
 use serde_json::Value;
 use std::alloc::Global;
 use std::collections::BTreeSet;
@@ -72,66 +70,12 @@ fn document_of(alloc: Global, value: &Value) -> Result<Document, FormFault>
     entries_of(alloc, read, value)
 }
 
-fn is_label(nodes: &[Node], place: usize) -> bool
-    ensures { result ≡ is_label (slice_get nodes.now place) }
-{
-    match nodes.get(place) {
-        Some(Node::Label(_)) => true,
-        _ => false,
-    }
-}
-
-fn are_labels(nodes: &[Node], places: &[usize]) -> bool
-    ensures { result ≡ list_all (λ i. is_label (slice_get nodes.now i)) places.now }
-{
-    places.iter().all(|place| is_label(nodes, *place))
-}
-
-/// Whether it is a label, a pair of labels, or a diagram whose regular slices are labels.
-fn is_low_node(nodes: &[Node], node: &Node) -> bool
-    ensures { result ≡ is_low_node nodes.now node.now }
-{
-    match node {
-        Node::Label(_) => true,
-        Node::Labels(_, _) => true,
-        Node::Diagram { regs, .. } => are_labels(nodes, regs.as_slice()),
-        Node::Arrow { .. } => false,
-    }
-}
-
-fn are_low_nodes(nodes: &[Node]) -> bool
-    ensures { result ≡ list_all (is_low_node nodes.now) nodes.now }
-{
-    nodes.iter().all(|node| is_low_node(nodes, node))
-}
-
-fn is_low(document: &Document) -> bool
-    ensures { result ≡ is_low document.now }
-{
-    document.generators.is_empty()
-        && document.maps.is_empty()
-        && are_low_nodes(document.nodes.as_slice())
-}
-
-/// The document that the bytes are, each fault by its name.
-pub(crate) fn read_exactly(alloc: Global, bytes: &[u8]) -> Result<Document, FormFault>
-    ensures { Gives (λ document. document) result (exact_document bytes.now) }
+/// The document that the bytes are, or the first form fault that they have.
+pub fn read_document(alloc: Global, bytes: &[u8]) -> Result<Document, FormFault>
+    ensures exact { Gives (λ document. document) result (exact_document bytes.now) }
+    ensures not_json { result ≡ Err FormFault.NotJson → json_of bytes.now ≡ None }
+    ensures form { IfOk result IsDocument }
 {
     let value = value_of(alloc, bytes)?;
     document_of(alloc, &value)
-}
-
-/// The document of dimension 0 and 1 that the bytes are. Any other JSON text is `Later`.
-pub fn read_document(alloc: Global, bytes: &[u8]) -> Result<Document, FormFault>
-    ensures exact { Gives (λ document. document) result (low_document bytes.now) }
-    ensures not_json { result ≡ Err FormFault.NotJson → json_of bytes.now ≡ None }
-    ensures form { IfOk result IsDocument }
-    ensures low { IfOk result IsLow }
-{
-    match read_exactly(alloc, bytes) {
-        Ok(document) if is_low(&document) => Ok(document),
-        Err(FormFault::NotJson) => Err(FormFault::NotJson),
-        Err(FormFault::NoMemory) => Err(FormFault::NoMemory),
-        _ => Err(FormFault::Later),
-    }
 }

@@ -1,11 +1,10 @@
-use crate::reading::read_exactly;
 use crate::{Field, FormFault, Reply, form_text, read_document, reply_text};
 use diagram_terms::{End, Items, Place, Step, Text};
 use std::alloc::Global;
 use std::test::Fail;
 
 fn fault_of(alloc: Global, text: &str) -> Option<FormFault> {
-    read_exactly(alloc, text.as_bytes()).err()
+    read_document(alloc, text.as_bytes()).err()
 }
 
 fn field(field: Field) -> Option<FormFault> {
@@ -369,44 +368,11 @@ fn reads_fields(rt: HostRuntime) -> Result<(), Fail> {
 }
 
 #[test]
-fn reads_low_documents(rt: HostRuntime) -> Result<(), Fail> {
+fn tells_bytes_that_are_not_json(rt: HostRuntime) {
     let alloc = rt.alloc();
-    let later = Some(FormFault::Later);
-    let point = "{\"label\":[0,0]}";
-    let second =
-        "{\"label\":[0,0]},{\"bwds\":[],\"fwds\":[],\"regs\":[0],\"sings\":[]},{\"bwds\":[],\"fwds\":[],\"regs\":[1],\"sings\":[]}";
-    let cases = [
-        ("", point, None),
-        (
-            "",
-            "{\"label\":[0,0]},{\"bwds\":[],\"fwds\":[],\"regs\":[0],\"sings\":[]}",
-            None,
-        ),
-        ("", second, later),
-        (
-            "",
-            "{\"labels\":[[0,0],[0,0]]},{\"heights\":[],\"regs\":[0],\"sings\":[]}",
-            later,
-        ),
-        ("{\"name\":\"x\"}", point, later),
-        ("", "{\"label\":[0,7]}", later),
-    ];
-    for (generators, nodes, want) in cases {
-        let text = document(alloc, generators, "", "", nodes)?;
-        assert_eq!(rt;
-            read_document(alloc, text.as_bytes()).err(),
-            want,
-            "{generators} {nodes}"
-        );
+    for bytes in [b"\xff".as_slice(), b"\"\xff\"", b"", b"{\"diagrams\":["] {
+        assert_eq!(rt; read_document(alloc, bytes).err(), Some(FormFault::NotJson));
     }
-    for (bytes, want) in [
-        (b"\xff".as_slice(), FormFault::NotJson),
-        (b"\"\xff\"", FormFault::NotJson),
-        (b"{}", FormFault::Later),
-    ] {
-        assert_eq!(rt; read_document(alloc, bytes).err(), Some(want));
-    }
-    Ok(())
 }
 
 fn look(alloc: Global, name: &str, at: Option<Place>) -> Result<Reply, Fail> {

@@ -61,7 +61,6 @@ fn fault_value(alloc: Global, fault: FormFault) -> Result<Value, AllocError>
 {
     match fault {
         FormFault::NotJson => json!(in alloc; {"refused": "NotJson"}),
-        FormFault::Later => json!(in alloc; {"refused": "Later"}),
         FormFault::Form { field, entry: None } =>
             json!(in alloc; {"field": field_word(field), "refused": "Form"}),
         FormFault::Form {

@@ -1,12 +1,61 @@
-use Rattle.std.proofs.Common.{◌≡◌, ◌≤◌, ◌<◌, ◌∙◌, List, length, get_or, sym, ap, true≢false, arith}
+use Rattle.std.proofs.Common.{◌≡◌, ◌≤◌, ◌<◌, ◌∙◌, List, length, get_or, refl, sym, ap, subst, true≢false, arith}
 use Rattle.diagram_terms.specs.declared.node.Node.{Node}
+use Rattle.diagram_terms.specs.Nodes.{tree_at}
+use Rattle.hashcons.specs.Ids.{GathersIds}
+use Rattle.hashcons.proofs.FillLemmas.{ids-grow}
 use Rattle.workspace_json.specs.declared.document.DiagramEntry.{DiagramEntry}
-use Rattle.io_edge.proofs.Parts.{ended, cut_off, stopped, one_more}
+use Rattle.io_edge.proofs.Parts.{begun, ended, cut_off, stopped, one_more}
 use Rattle.hom_cli.specs.declared.status.Status.TheVariants as status
 use Rattle.hom_cli.specs.Full.{look_reply}
+use Rattle.hom_cli.proofs.Looks.{entry_place, read_kind, entry_of_store, entry_dim, entry_reply}
 use Rattle.hom_cli.proofs.Lines.{entries_status, on_err, prefix_of_run, whole_of_run, next_line, more_status, none_left, all_written, status_is}
 use Rattle.hom_cli.proofs.look.write_looks.Goals as goal
 use Rattle.hom_cli.proofs.look.write_looks.Goals.{then-not-is_yes, else-not-is_yes}
+
+pub loop-entry-init : goal.loop-entry-init
+loop-entry-init g c = record {
+  under_way = begun _ _;
+  status = refl;
+  later = omega arith;
+  ids = subst (λ (ns : List Node). GathersIds c.put_nodes.new.self c.in_ok-ids.ids.items (length ns) (tree_at ns)) c.as_slice.ensures c.in_ok-ids.ensures.ids;
+  store = c.in_ok-ids.ensures.store;
+}
+
+pub diagram_of-diagram-requires : goal.diagram_of-diagram-requires
+diagram_of-diagram-requires g c =
+    let d = c.args.document.now in
+    let inv = c.loop-entry.invariant in
+    let entry = c.entry-item.result in
+    let items = c.as_slice-entry-items.ensures in
+    let within : c.loop-entry.entry-index < length d.diagrams = omega (arith, ap length items) in
+    let is : entry ≡ get_or d.diagrams c.loop-entry.entry-index entry =
+    c.entry-item.is ∙ ap (λ (es : List DiagramEntry). get_or es c.loop-entry.entry-index entry) items in
+    let place = entry_place d c.requires c.loop-entry.entry-index entry within is in
+    read_kind d.nodes c.requires.nodes c.loop-entry.store c.in_ok-ids.ids.items inv.ids inv.store entry.root place c.index.result.now c.index.ensures
+
+pub looked_at-requires-clause-of_store : goal.looked_at-requires-clause-of_store
+looked_at-requires-clause-of_store g c =
+    let d = c.args.document.now in
+    let inv = c.loop-entry.invariant in
+    let entry = c.entry-item.result in
+    let items = c.as_slice-entry-items.ensures in
+    let within : c.loop-entry.entry-index < length d.diagrams = omega (arith, ap length items) in
+    let is : entry ≡ get_or d.diagrams c.loop-entry.entry-index entry =
+    c.entry-item.is ∙ ap (λ (es : List DiagramEntry). get_or es c.loop-entry.entry-index entry) items in
+    let place = entry_place d c.requires c.loop-entry.entry-index entry within is in
+    entry_of_store d.nodes c.requires.nodes c.loop-entry.store c.in_ok-ids.ids.items inv.ids inv.store entry place c.index.result.now _ c.index.ensures c.diagram_of-diagram.ensures
+
+pub looked_at-requires-clause-dim : goal.looked_at-requires-clause-dim
+looked_at-requires-clause-dim g c =
+    let d = c.args.document.now in
+    let inv = c.loop-entry.invariant in
+    let entry = c.entry-item.result in
+    let items = c.as_slice-entry-items.ensures in
+    let within : c.loop-entry.entry-index < length d.diagrams = omega (arith, ap length items) in
+    let is : entry ≡ get_or d.diagrams c.loop-entry.entry-index entry =
+    c.entry-item.is ∙ ap (λ (es : List DiagramEntry). get_or es c.loop-entry.entry-index entry) items in
+    let place = entry_place d c.requires c.loop-entry.entry-index entry within is in
+    entry_dim d.nodes c.requires.nodes c.loop-entry.store c.in_ok-ids.ids.items inv.ids inv.store entry place c.index.result.now _ c.index.ensures c.diagram_of-diagram.ensures
 
 pub returns-in_err-reply-clause-err : goal.returns-in_err-reply-clause-err
 returns-in_err-reply-clause-err g c =
@@ -26,7 +75,11 @@ returns-in_err-write_line-clause-err g c =
     let items = c.as_slice-entry-items.ensures in
     let within : i < length d.diagrams = omega (arith, ap length items) in
     let is : entry ≡ get_or d.diagrams i entry = c.entry-item.is ∙ ap (λ (es : List DiagramEntry). get_or es i entry) items in
-    let reply_is : c.in_ok-reply.reply ≡ look_reply d.nodes entry = c.in_ok-reply.ensures ∙ ap (λ (ns : List Node). look_reply ns entry) c.as_slice-nodes.ensures in
+    let inv = c.loop-entry.invariant in
+    let place = entry_place d c.requires i entry within is in
+    let reply_is : c.in_ok-reply.reply ≡ look_reply d.nodes entry =
+    entry_reply d.nodes c.requires.nodes c.loop-entry.store c.in_ok-ids.ids.items inv.ids inv.store entry place c.index.result.now _ c.index.ensures c.diagram_of-diagram.ensures
+    c.in_ok-reply.reply c.in_ok-reply.ensures.reply in
     let so_far = next_line d.nodes d.diagrams i entry within is _ _ c.in_ok-reply_text.field-0.items c.in_ok-reply.reply c.in_ok-reply_text.ensures reply_is c.loop-entry.invariant.under_way in
     on_err _ (prefix_of_run d.nodes d.diagrams _ _ (cut_off _ _ _ _ _ _ c.in_err-write_line.ensures.err so_far))
 
@@ -38,7 +91,11 @@ loop-entry-preserved g c =
     let items = c.as_slice-entry-items.ensures in
     let within : i < length d.diagrams = omega (arith, ap length items) in
     let is : entry ≡ get_or d.diagrams i entry = c.entry-item.is ∙ ap (λ (es : List DiagramEntry). get_or es i entry) items in
-    let reply_is : c.in_ok-reply.reply ≡ look_reply d.nodes entry = c.in_ok-reply.ensures ∙ ap (λ (ns : List Node). look_reply ns entry) c.as_slice-nodes.ensures in
+    let inv = c.loop-entry.invariant in
+    let place = entry_place d c.requires i entry within is in
+    let reply_is : c.in_ok-reply.reply ≡ look_reply d.nodes entry =
+    entry_reply d.nodes c.requires.nodes c.loop-entry.store c.in_ok-ids.ids.items inv.ids inv.store entry place c.index.result.now _ c.index.ensures c.diagram_of-diagram.ensures
+    c.in_ok-reply.reply c.in_ok-reply.ensures.reply in
     let so_far = next_line d.nodes d.diagrams i entry within is _ _ c.in_ok-reply_text.field-0.items c.in_ok-reply.reply c.in_ok-reply_text.ensures reply_is c.loop-entry.invariant.under_way in
     record {
       under_way = one_more _ _ _ _ _ _ c.in_ok-write_line.ensures.ok so_far;
@@ -53,6 +110,8 @@ loop-entry-preserved g c =
             c.loop-entry.invariant.status
       ];
       later = omega (arith, c.in_ok-write_line.ensures.later);
+      ids = ids-grow c.loop-entry.store _ c.in_ok-ids.ids.items (length d.nodes) (tree_at d.nodes) c.in_ok-reply.ensures.grows inv.ids;
+      store = c.in_ok-reply.ensures.store;
     }
 
 pub returns-clause-ok : goal.returns-clause-ok
