@@ -13,12 +13,15 @@ pub mod Glue
 pub mod HeldArrows
 pub mod HeldDiagrams
 pub mod Injections
+pub mod LooseTests
 pub mod MonotoneParts
 pub mod NodeForms
 pub mod NodeGrowth
 pub mod NodeShapes
 pub mod NodeTests
 pub mod Parts
+pub mod PrintedForms
+pub mod Printing
 pub mod Samples
 pub mod Shapes
 pub mod SquareParts

@@ -1,18 +1,27 @@
 -- The definitions at small diagrams, by computation.
-use Rattle.std.proofs.Common.{◌≡◌, ℕ, List, [], ◌∷◌, Some, None, refl}
+use Rattle.std.proofs.Common.{◌≡◌, ℕ, List, [], ◌∷◌, Some, None, Ok, Err, refl}
 use Rattle.diagram_terms.specs.declared.label.Label.{Label}
 use Rattle.diagram_terms.specs.declared.place.Step.TheVariants as step
 use Rattle.diagram_terms.specs.declared.place.End.TheVariants as at_end
+use Rattle.diagram_terms.specs.declared.place.Height.TheVariants as height
 use Rattle.diagram_terms.specs.declared.node.Node.{Node}
 use Rattle.diagram_terms.specs.declared.node.Node.TheVariants as node
 use Rattle.diagram_terms.specs.declared.node.Sort.TheVariants as sort
 use Rattle.diagram_terms.specs.Nodes.{tree_at, sorts_of, sort_of}
-use Rattle.diagram_terms.specs.Tree.{point, zig, ends, zag, regs, sings, fwds, bwds, heights, label_at, from_at, to_at}
+use Rattle.diagram_terms.specs.Tree.{kind, point, zig, ends, zag, regs, sings, fwds, bwds, heights, label_at, from_at, to_at}
 use Rattle.diagram_terms.specs.Decoded.{dia, arr}
 use Rattle.diagram_terms.specs.Family.{no_dia, no_arr}
 use Rattle.diagram_terms.specs.Dual.{dual, after}
 use Rattle.diagram_terms.specs.Composite.{comp, ident}
 use Rattle.diagram_terms.specs.Places.{first_bad_place, first_failure, arrow_tests}
+use Rattle.diagram_terms.specs.Cone.{cone, mid, type_over}
+use Rattle.diagram_terms.specs.Completion.{children, node_of, subtree_nodes, root_places}
+use Rattle.diagram_terms.specs.Dimension.{dimension_of}
+use Rattle.diagram_terms.specs.Loose.{first_loose_leg}
+use Rattle.diagram_terms.specs.Slices.{slice_at, slice_along}
+use Rattle.diagram_terms.specs.Points.{points}
+use Rattle.diagram_terms.specs.Typing.{Generator, first_fault}
+use Rattle.diagram_terms.specs.declared.place.Fault.TheVariants as fault
 
 abbrev cell : ℕ → ℕ → Label
 cell n d = record { number = n; dim = d }
@@ -102,3 +111,65 @@ identity_is_neutral = unfold point zig ends zag regs sings fwds bwds heights lab
 -- a dual counts the heights below
 dual_of_three : dual (1 ∷ 1 ∷ 3 ∷ []) 2 ≡ 2
 dual_of_three = unfold dual in refl
+
+-- ---- types, cones, slices and printed nodes
+
+-- the type of the cell b from f to f
+cell_type : type_over 1 (dia 1 (tree_at cell_nodes 3)) (dia 1 (tree_at cell_nodes 3)) b ≡ dia 2 (tree_at cell_nodes 10)
+cell_type = unfold point zig ends zag regs sings fwds bwds heights label_at from_at to_at no_dia no_arr ident cone mid type_over in refl
+
+-- x -> x <- x -> f <- x, and its slices
+abbrev two_heights : List Node
+two_heights =
+    node.Label x ∷ node.Label f ∷ node.Labels x x ∷ node.Labels x f
+    ∷ node.Diagram (0 ∷ 0 ∷ 0 ∷ []) (0 ∷ 1 ∷ []) (2 ∷ 3 ∷ []) (2 ∷ 3 ∷ []) ∷ []
+
+second_slice : slice_along (tree_at two_heights 4) (height.S 1 ∷ []) ≡ Ok (point f)
+second_slice = unfold kind point zig ends zag regs sings slice_at in refl
+
+no_third_slice : slice_along (tree_at two_heights 4) (height.S 2 ∷ []) ≡ Err 0
+no_third_slice = unfold kind point zig ends zag regs sings slice_at in refl
+
+labels_have_none : slice_along (tree_at two_heights 4) (height.R 0 ∷ height.R 0 ∷ []) ≡ Err 1
+labels_have_none = unfold kind point zig ends zag regs sings slice_at in refl
+
+printed : subtree_nodes (tree_at two_heights 4 ∷ []) ≡ two_heights
+printed = unfold kind point zig ends zag regs sings fwds bwds heights label_at from_at to_at children node_of dimension_of in refl
+
+printed_place : root_places (tree_at two_heights 4 ∷ []) ≡ 4 ∷ []
+printed_place = unfold kind point zig ends zag regs sings fwds bwds heights label_at from_at to_at children node_of dimension_of in refl
+
+-- a leg of dimension 1 whose regular slices are no identities
+abbrev loose_nodes : List Node
+loose_nodes =
+    node.Label x ∷ node.Label f ∷ node.Labels x f ∷ node.Diagram (0 ∷ []) [] [] [] ∷ node.Diagram (1 ∷ []) [] [] []
+    ∷ node.Arrow [] (2 ∷ []) [] ∷ node.Diagram (3 ∷ 3 ∷ []) (4 ∷ []) (5 ∷ []) (5 ∷ []) ∷ []
+
+loose_leg : first_loose_leg 2 (dia 2 (tree_at loose_nodes 6)) ≡ Some (step.F 0 ∷ [])
+loose_leg = unfold point zig ends zag regs sings fwds bwds heights label_at from_at to_at no_dia no_arr in refl
+
+no_loose_leg : first_loose_leg 2 (dia 2 (tree_at cell_nodes 10)) ≡ None
+no_loose_leg = unfold point zig ends zag regs sings fwds bwds heights label_at from_at to_at no_dia no_arr in refl
+
+-- ---- points and types
+
+two_points : points 1 (dia 1 (tree_at loop_nodes 3)) ≡ record { heights = height.R 0 ∷ []; label = x } ∷ record { heights = height.S 0 ∷ []; label = f } ∷ record { heights = height.R 1 ∷ []; label = x } ∷ []
+two_points = unfold point zig ends zag regs sings fwds bwds heights label_at from_at to_at no_dia no_arr in refl
+
+-- x, and f from x to x
+abbrev two_generators : List Generator
+two_generators = None ∷ Some (point x, point x) ∷ []
+
+loop_is_typed : first_fault two_generators 1 (dia 1 (tree_at loop_nodes 3)) ≡ None
+loop_is_typed = unfold point zig ends zag regs sings fwds bwds heights label_at from_at to_at no_dia no_arr dimension_of in refl
+
+-- f is no generator where x stands alone
+loop_without_f : first_fault (None ∷ []) 1 (dia 1 (tree_at loop_nodes 3)) ≡ Some (fault.LabelAt (height.S 0 ∷ []))
+loop_without_f = unfold point zig ends zag regs sings fwds bwds heights label_at from_at to_at no_dia no_arr dimension_of in refl
+
+-- the dimension of f is above that of a point
+cell_as_point : first_fault two_generators 0 (dia 0 (tree_at loop_nodes 1)) ≡ Some (fault.TypeAt [])
+cell_as_point = unfold point zig ends zag regs sings fwds bwds heights label_at from_at to_at no_dia no_arr dimension_of in refl
+
+loose_is_first : first_fault two_generators 2 (dia 2 (tree_at loose_nodes 6)) ≡ Some (fault.LooseAt (step.F 0 ∷ []))
+loose_is_first = unfold point zig ends zag regs sings fwds bwds heights label_at from_at to_at no_dia no_arr dimension_of dual after comp in refl

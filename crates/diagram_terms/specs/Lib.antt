@@ -5,12 +5,17 @@ pub mod Tree
 pub mod Decoded
 pub mod Shape
 pub mod Dimension
+pub mod Slices
 pub mod Completion
 pub mod Composite
+pub mod Cone
 pub mod Composable
 pub mod Edges
 pub mod Identity
 pub mod Plain
+pub mod Loose
+pub mod Points
+pub mod Typing
 pub mod Valid
 pub mod Places
 pub mod Levels
