@@ -1,5 +1,5 @@
 -- How the ids of a listing grow, one visit after the other.
-use Rattle.std.proofs.Common.{◌≡◌, ℕ, zero, suc, ◌+◌, ◌<◌, Bool, true, false, ◌||◌, List, [], ◌∷◌, ◌++◌, length, take, get_or, refl, sym, ap, subst, ◌∙◌, arith, ◌⊎◌, inl, inr, if◌then◌else◌}
+use Rattle.std.proofs.Common.{◌≡◌, ℕ, suc, ◌+◌, ◌<◌, Bool, true, false, ◌||◌, List, [], ◌∷◌, ◌++◌, length, take, get_or, refl, sym, ap, subst, ◌∙◌, arith, ◌⊎◌, inl, inr, if◌then◌else◌}
 use Rattle.std.specs.Bool.{Decides}
 use Rattle.std.specs.List.{list_any, flat_map}
 use Rattle.std.proofs.lemmas.Bool.{cond-true, cond-false}
@@ -7,10 +7,10 @@ use Rattle.std.proofs.lemmas.Bool.Decides.{same_from_decides}
 use Rattle.std.proofs.lemmas.Grind.{flat_map-append}
 use Rattle.std.proofs.lemmas.List.{length_push, get_or_append_left, get_or_push, map-append, take_more, append-nil, get_or_read}
 use Rattle.diagram_terms.specs.Tree.{Tree, nil}
-use Rattle.diagram_terms.specs.Dimension.{dimension_of}
-use Rattle.diagram_terms.specs.Completion.{children, completed, completions, same_tree, numbered, all_numbered, ComesAfterChildren}
+use Rattle.diagram_terms.specs.Completion.{children, completions, same_tree, numbered, all_numbered, ComesAfterChildren}
 use Rattle.diagram_terms.specs.Nodes.{picked}
-use Rattle.diagram_terms.proofs.Completions.{IsIn, AllIn, found_in, same_tree_decides, all_numbered-append, in-all_numbered, after-numbered, visit-there, diagram_completions, arrow_completions}
+use Rattle.diagram_terms.proofs.Completions.{AllIn, found_in, same_tree_decides, all_numbered-append, in-all_numbered, after-numbered, visit-there, diagram_completions, arrow_completions}
+use Rattle.diagram_terms.proofs.Printing.{roots_in}
 use Rattle.hashcons.specs.declared.id.AnyId.{AnyId}
 use Rattle.hashcons.specs.declared.id.AnyId.TheVariants as id
 use Rattle.hashcons.specs.Contents.{Contents, IsStore, diagram_at, arrow_at}
@@ -86,29 +86,6 @@ visits-append c old mid new ts us h k = record {
   listing = k.listing;
   trees = k.trees ∙ ap (λ vs. all_numbered vs us) h.trees ∙ sym (all_numbered-append (listed c old) ts us);
 }
-
--- what a visit to a tree completes ends with the tree
-visit_ends : (n : ℕ) (t : Tree) (seen : List Tree) → AllIn seen (completed n t) → IsIn seen t
-visit_ends zero t seen h = h 0 (omega arith)
-visit_ends (suc n) t seen h =
-    let ts = flat_map (completed n) (children t) in
-    subst (IsIn seen) (get_or_push ts t nil (length ts) refl) (h (length ts) (omega (arith, length_push ts t)))
-
-all_in-left : (seen ts us : List Tree) → AllIn seen (ts ++ us) → AllIn seen ts
-all_in-left seen [] us h k l = absurd (omega arith)
-all_in-left seen (t ∷ ts) us h zero l = h 0 (omega arith)
-all_in-left seen (t ∷ ts) us h (suc k) l = all_in-left seen ts us (λ j m. h (suc j) (omega arith)) k (omega arith)
-
-all_in-right : (seen ts us : List Tree) → AllIn seen (ts ++ us) → AllIn seen us
-all_in-right seen [] us h k l = h k l
-all_in-right seen (t ∷ ts) us h k l = all_in-right seen ts us (λ j m. h (suc j) (omega arith)) k l
-
-pub roots_in : (seen ts : List Tree) → AllIn seen (flat_map completions ts) → AllIn seen ts
-roots_in seen [] h k l = absurd (omega arith)
-roots_in seen (t ∷ ts) h zero l = visit_ends (dimension_of t) t seen
-    (all_in-left seen (completions t) (flat_map completions ts) h)
-roots_in seen (t ∷ ts) h (suc k) l = roots_in seen ts (all_in-right seen (completions t) (flat_map completions ts) h) k
-    (omega arith)
 
 completions-node : (c : Contents) → IsStore c → (x : AnyId) → IsOf c x
     → completions (tree_of c x) ≡ flat_map completions (children (tree_of c x)) ++ tree_of c x ∷ []

@@ -1,11 +1,10 @@
-ghost use Rattle.std.specs.Prelude.{◌≡◌, ◌<◌, OnOk, IfOk, length, map, vec_len, slice_get, true};
-ghost use Rattle.std.specs.List.{flat_map};
-ghost use Rattle.diagram_terms.specs.Completion.{children, completions, distinct_subtrees};
+ghost use Rattle.std.specs.Prelude.{◌≡◌, ◌<◌, IfOk, length, map, vec_len};
+ghost use Rattle.diagram_terms.specs.Completion.{distinct_subtrees, node_of, subtree_nodes, root_places};
 ghost use Rattle.diagram_terms.specs.Dual.{AreBelow};
-ghost use Rattle.diagram_terms.specs.Nodes.{picked, node_tree, places_below, trees_of, tree_at};
-ghost use Rattle.hashcons.specs.Contents.{IsStore, IsDiagramOf, IsArrowOf, diagram_at, arrow_at};
-ghost use Rattle.hashcons.specs.Ids.{IsOf, tree_of, id_at};
-ghost use Rattle.hashcons.specs.Listing.{AreOf, listed, IsListing, Visits, AreOfOneDimension, NameEarlier, StandsIn, IsFirstPlace, AllStandIn, ArePlacesOf, diagram_ids, arrow_ids};
+ghost use Rattle.diagram_terms.specs.Nodes.{trees_of, tree_at};
+ghost use Rattle.hashcons.specs.Contents.{IsStore, diagram_at, arrow_at};
+ghost use Rattle.hashcons.specs.Ids.{tree_of, id_at};
+ghost use Rattle.hashcons.specs.Listing.{AreOf, listed, IsListing, NameEarlier, StandsIn, IsFirstPlace, AllStandIn, ArePlacesOf, diagram_ids, arrow_ids};
 ghost use Rattle.indexmap.specs.IndexSet.{index_set_len};
 
 use crate::id::{AnyId, ArrowId, DiagramId};
@@ -16,14 +15,18 @@ use indexmap::IndexSet;
 use std::alloc::{AllocError, Global};
 
 impl Store {
-    /// The distinct subtrees of some roots as nodes, in the order in which they are first completed,
-    /// and the place of each root.
+    /// The printed form of some roots: their distinct subtrees as nodes, in the order in which they
+    /// are first completed, and the place of each root.
     pub fn list(&self, roots: &[AnyId]) -> Result<(Vec<Node>, Vec<usize>), AllocError>
         requires { AreOf self.now roots.now }
+        ensures nodes { IfOk result (λ r.
+            r.0.items ≡ subtree_nodes (map (tree_of self.now) roots.now)) }
+        ensures places { IfOk result (λ r.
+            r.1.items ≡ root_places (map (tree_of self.now) roots.now)) }
         ensures trees { IfOk result (λ r.
             trees_of r.0.items ≡ distinct_subtrees (map (tree_of self.now) roots.now)) }
         ensures earlier { IfOk result (λ r. NameEarlier r.0.items) }
-        ensures places { IfOk result (λ r.
+        ensures roots { IfOk result (λ r.
             map (tree_at r.0.items) r.1.items ≡ map (tree_of self.now) roots.now) }
         ensures within { IfOk result (λ r. AreBelow r.1.items (vec_len r.0)) }
     {
@@ -52,9 +55,8 @@ impl Store {
     fn nodes_in(&self, order: &IndexSet<AnyId>) -> Result<Vec<Node>, AllocError>
         requires store { IsStore self.now }
         requires listing { IsListing self.now order.now.keys }
-        ensures trees { IfOk result (λ nodes.
-            trees_of nodes.items ≡ listed self.now order.now.keys) }
-        ensures earlier { IfOk result (λ nodes. NameEarlier nodes.items) }
+        ensures { IfOk result (λ nodes.
+            nodes.items ≡ map (node_of (listed self.now order.now.keys)) (listed self.now order.now.keys)) }
     {
         let mut nodes = Vec::new(self.allocator());
         for at in 0..order.len() {
@@ -69,29 +71,21 @@ impl Store {
         requires store { IsStore self.now }
         requires listing { IsListing self.now order.now.keys }
         requires within { at < index_set_len order.now }
-        ensures tree { IfOk result (λ n.
-            node_tree (listed self.now order.now.keys) n ≡ tree_of self.now (id_at order.now.keys at)) }
-        ensures earlier { IfOk result (λ n. places_below at n ≡ true) }
+        ensures { IfOk result (λ n.
+            n ≡ node_of (listed self.now order.now.keys) (tree_of self.now (id_at order.now.keys at))) }
     {
         match order[at] {
-            AnyId::Diagram(d) => self.diagram_node_at(order, at, d),
-            AnyId::Arrow(a) => self.arrow_node_at(order, at, a),
+            AnyId::Diagram(d) => self.diagram_node(order, d),
+            AnyId::Arrow(a) => self.arrow_node(order, a),
         }
     }
 
-    /// The node of a diagram that stands at a place of a listing.
-    fn diagram_node_at(
-        &self,
-        order: &IndexSet<AnyId>,
-        at: usize,
-        d: DiagramId,
-    ) -> Result<Node, AllocError>
+    /// The node of a diagram that stands in a listing, over the places of its children.
+    fn diagram_node(&self, order: &IndexSet<AnyId>, d: DiagramId) -> Result<Node, AllocError>
         requires store { IsStore self.now }
         requires listing { IsListing self.now order.now.keys }
-        requires there { slice_get order.now.keys at ≡ Some (AnyId.Diagram d) }
-        ensures tree { IfOk result (λ n.
-            node_tree (listed self.now order.now.keys) n ≡ diagram_at self.now d) }
-        ensures earlier { IfOk result (λ n. places_below at n ≡ true) }
+        requires stands { StandsIn order.now.keys (AnyId.Diagram d) }
+        ensures { IfOk result (λ n. n ≡ node_of (listed self.now order.now.keys) (diagram_at self.now d)) }
     {
         let alloc = self.allocator();
         match self.view_diagram(d) {
@@ -110,19 +104,12 @@ impl Store {
         }
     }
 
-    /// The node of an arrow that stands at a place of a listing.
-    fn arrow_node_at(
-        &self,
-        order: &IndexSet<AnyId>,
-        at: usize,
-        a: ArrowId,
-    ) -> Result<Node, AllocError>
+    /// The node of an arrow that stands in a listing, over the places of its children.
+    fn arrow_node(&self, order: &IndexSet<AnyId>, a: ArrowId) -> Result<Node, AllocError>
         requires store { IsStore self.now }
         requires listing { IsListing self.now order.now.keys }
-        requires there { slice_get order.now.keys at ≡ Some (AnyId.Arrow a) }
-        ensures tree { IfOk result (λ n.
-            node_tree (listed self.now order.now.keys) n ≡ arrow_at self.now a) }
-        ensures earlier { IfOk result (λ n. places_below at n ≡ true) }
+        requires stands { StandsIn order.now.keys (AnyId.Arrow a) }
+        ensures { IfOk result (λ n. n ≡ node_of (listed self.now order.now.keys) (arrow_at self.now a)) }
     {
         let alloc = self.allocator();
         match self.view_arrow(a) {

@@ -45,7 +45,8 @@ impl Store {
         }
     }
 
-    pub(crate) fn allocator(&self) -> Global
+    /// The allocator that the store takes memory from.
+    pub fn allocator(&self) -> Global
         ensures { IsStore self.now }
     {
         *self.diagrams.allocator()
