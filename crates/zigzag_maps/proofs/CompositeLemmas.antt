@@ -183,7 +183,7 @@ has_composite g f c l = has_composite_at c.dim g f c.at_dim (omega (arith, arrow
 
 -- ---- its shape
 
-composite_shape : (d : ℕ) (g f : Tree) → AreComposableAt d g f → IsArrow d (composite_tree g f)
+pub composite_shape : (d : ℕ) (g f : Tree) → AreComposableAt d g f → IsArrow d (composite_tree g f)
 composite_shape zero g f c = subst (IsArrow zero) (sym (composite_tree_at zero g f c.inner)) (IsArrow-ends _ _)
 composite_shape (suc d) g f c =
     let has = has_composite_above d g f c in
@@ -226,22 +226,22 @@ pub composable-dimension : (g f : Tree) → AreComposable g f → dimension_of g
 composable-dimension g f c = arrow_dimension c.dim g c.at_dim.outer ∙ sym (arrow_dimension c.dim f c.at_dim.inner)
 
 -- valid arrows that meet can be composed
-pub composable_between : (s m t g f : Tree) → IsArrowBetween s m f → IsArrowBetween m t g → AreComposable g f
-composable_between s m t g f a b =
+pub composable_between_at : (s m t g f : Tree) (a : IsArrowBetween s m f) → IsArrowBetween m t g → AreComposableAt a.dim g f
+composable_between_at s m t g f a b =
     let d = a.dim in
     let e : b.dim ≡ d = one_diagram_dimension b.dim d m b.at_dim.source a.at_dim.target in
     record {
-      dim = d;
-      at_dim = record {
-        outer = subst (λ n. IsArrow n g) e b.at_dim.shape;
-        inner = a.at_dim.shape;
-        source = dia d s;
-        middle = dia d m;
-        target = dia d t;
-        inner_valid = a.at_dim.valid;
-        outer_valid = subst (λ n. ValidArrow n (dia n m) (dia n t) (arr n g)) e b.at_dim.valid;
-      };
+      outer = subst (λ n. IsArrow n g) e b.at_dim.shape;
+      inner = a.at_dim.shape;
+      source = dia d s;
+      middle = dia d m;
+      target = dia d t;
+      inner_valid = a.at_dim.valid;
+      outer_valid = subst (λ n. ValidArrow n (dia n m) (dia n t) (arr n g)) e b.at_dim.valid;
     }
+
+pub composable_between : (s m t g f : Tree) → IsArrowBetween s m f → IsArrowBetween m t g → AreComposable g f
+composable_between s m t g f a b = record { dim = a.dim; at_dim = composable_between_at s m t g f a b }
 
 pub composable-middle : (g f : Tree) → AreComposable g f → 0 < dimension_of f → length (regs f) ≡ suc (length (heights g))
 composable-middle g f c l = (has_composite g f c l).middle_len

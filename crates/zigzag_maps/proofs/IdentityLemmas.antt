@@ -70,7 +70,7 @@ identity_tree-above d t h =
     identity_tree_at (suc d) t h ∙ (λ i. zag (hs i) (rs i) (ss i))
 
 -- its shape
-identity_shape : (d : ℕ) (t : Tree) → IsDiagram d t → IsArrow d (identity_tree t)
+pub identity_shape : (d : ℕ) (t : Tree) → IsDiagram d t → IsArrow d (identity_tree t)
 identity_shape zero t h = subst (IsArrow zero) (sym (identity_tree_at zero t h)) (IsArrow-ends _ _)
 identity_shape (suc d) t h =
     let n = length (sings t) in

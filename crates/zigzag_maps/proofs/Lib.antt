@@ -7,5 +7,7 @@ pub mod IdentityLemmas
 pub mod KeepLemmas
 pub mod ValidityLemmas
 pub mod ValiditySteps
+pub mod Verdicts
 pub mod VisitLemmas
 pub mod Visiting
+mod ValidMaps

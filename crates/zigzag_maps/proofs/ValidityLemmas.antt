@@ -1,5 +1,5 @@
 -- The tests of a diagram, by its slices and its legs.
-use Rattle.std.proofs.Common.{◌≡◌, ℕ, zero, suc, ◌-◌, ◌<◌, ◌≤◌, List, [], ◌∷◌, ◌++◌, length, Option, None, Some, refl, sym, ap, subst, ◌∙◌, arith}
+use Rattle.std.proofs.Common.{◌≡◌, ℕ, zero, suc, ◌-◌, ◌<◌, ◌≤◌, List, ◌++◌, length, None, Some, refl, sym, ap, subst, ◌∙◌, arith}
 use Rattle.diagram_terms.specs.declared.place.Place.{Place}
 use Rattle.diagram_terms.specs.declared.place.Step.TheVariants as step
 use Rattle.diagram_terms.specs.Tree.{Tree, sings, fwds, bwds}
@@ -14,7 +14,7 @@ use Rattle.diagram_terms.proofs.Glue.{dia-sings_len, dia-reg, dia-sing, dia-fwd,
 use Rattle.diagram_terms.proofs.Visiting.{append_fails, append_passes}
 use Rattle.zigzag_maps.proofs.Visiting.{under_passes, each_passes, same_each}
 use Rattle.zigzag_maps.specs.Trees.{IsValidTreeAt}
-use Rattle.zigzag_maps.specs.Visits.{tests_between, diagram_fault}
+use Rattle.zigzag_maps.specs.Visits.{diagram_fault}
 use Rattle.zigzag_maps.specs.Validity.{tests_in, reg_slice_tests, sing_slice_tests, fwd_tests, bwd_tests, leg_tests, HasValidParts}
 use Rattle.zigzag_maps.proofs.VisitLemmas.{tests_between_at}
 

@@ -1,5 +1,5 @@
 -- The first fault of a diagram of a store, slice by slice and leg by leg.
-use Rattle.std.proofs.Common.{◌≡◌, ℕ, zero, suc, ◌-◌, ◌<◌, ◌≤◌, length, Option, option_map, None, Some, sym, ap, subst, ◌∙◌, arith}
+use Rattle.std.proofs.Common.{◌≡◌, ℕ, zero, suc, ◌-◌, ◌<◌, ◌≤◌, length, Option, option_map, None, sym, ap, subst, ◌∙◌, arith}
 use Rattle.diagram_terms.specs.declared.place.Place.{Place}
 use Rattle.diagram_terms.specs.declared.place.Step.TheVariants as step
 use Rattle.diagram_terms.specs.Tree.{Tree, sings}

@@ -1,11 +1,11 @@
 -- The first failure of tests that are visited a step further in, and height by height.
-use Rattle.std.proofs.Common.{◌≡◌, ℕ, zero, suc, ◌+◌, ◌-◌, ◌<◌, ◌≤◌, List, [], ◌∷◌, ◌++◌, length, Bool, true, false, flat_map, option_map, Option, None, Some, refl, sym, ap, ◌∙◌, inl, inr, arith}
+use Rattle.std.proofs.Common.{◌≡◌, ℕ, zero, suc, ◌+◌, ◌-◌, ◌<◌, ◌≤◌, List, [], ◌∷◌, ◌++◌, flat_map, option_map, None, Some, refl, sym, ap, ◌∙◌, inl, inr, arith}
 use Rattle.std.specs.List.{range_with_len}
 use Rattle.std.proofs.lemmas.Bool.{cases_Bool}
 use Rattle.std.proofs.lemmas.List.{append-nil}
 use Rattle.diagram_terms.specs.declared.place.Place.{Place}
 use Rattle.diagram_terms.specs.declared.place.Step.{Step}
-use Rattle.diagram_terms.specs.Places.{Test, here, under, at_each, one_step_in, first_failure}
+use Rattle.diagram_terms.specs.Places.{Test, under, at_each, one_step_in, first_failure}
 use Rattle.diagram_terms.proofs.Decisions.{passes_each, passes_under}
 use Rattle.diagram_terms.proofs.FirstFaults.{first_failed, first_passed, none_iff_all_pass}
 use Rattle.diagram_terms.proofs.Visiting.{append_passes, append_fails}

@@ -25,6 +25,7 @@ pub fn compose(alloc: Global, store: &mut Store, g: Map, f: Map) -> Result<Map, 
     ensures of_store { IfOk result (λ m. IsArrowOf store.new m.arrow) }
     ensures tree { IfOk result (λ m. arrow_at store.new m.arrow
         ≡ composite_tree (arrow_at store.old g.arrow) (arrow_at store.old f.arrow)) }
+    ensures valid { IfOk result (IsValidMap store.new) }
     ensures grows { Grows store.old store.new }
     ensures store { IsStore store.new }
 {
@@ -70,6 +71,7 @@ pub(crate) fn composite(
     Ok(arrow)
 }
 
+/// The composite of two arrows that is not kept.
 #[cycle(composites)]
 #[tactic(auto, using(crate::proofs::CompositeLemmas::composes))]
 fn composite_anew(
@@ -106,6 +108,7 @@ fn composite_anew(
     })
 }
 
+/// The composite of two arrows of dimension 0: the pair of the first label and the last.
 fn composite_of_pairs(store: &mut Store, g: ArrowId, f: ArrowId) -> Result<ArrowId, AllocError>
     requires outer { IsArrowOf store.old g }
     requires inner { IsArrowOf store.old f }
@@ -143,6 +146,7 @@ fn composite_heights(
     Ok(heights)
 }
 
+/// The regular slices of a composite: those of `g`, each after that of `f` at its dual.
 #[cycle(composites)]
 #[tactic(auto, using(crate::proofs::CompositeLemmas::composes))]
 fn regular_composites(
@@ -182,6 +186,7 @@ fn regular_composites(
     Ok(ids)
 }
 
+/// The singular slices of a composite: those of `f`, each before that of `g` at its height.
 #[cycle(composites)]
 #[tactic(auto, using(crate::proofs::CompositeLemmas::composes))]
 fn singular_composites(

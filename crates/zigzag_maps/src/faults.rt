@@ -1,10 +1,10 @@
-ghost use Rattle.std.specs.Prelude.{◌≡◌, ◌+◌, ◌-◌, ◌<◌, ◌≤◌, IfOk, length, suc, Some, [], option_map};
+ghost use Rattle.std.specs.Prelude.{◌≡◌, ◌↔◌, ◌+◌, ◌-◌, ◌<◌, ◌≤◌, IfOk, length, suc, Some, [], option_map};
 ghost use Rattle.diagram_terms.specs.Dual.{dual};
 ghost use Rattle.diagram_terms.specs.Dimension.{dimension_of};
 ghost use Rattle.diagram_terms.specs.Places.{at_each, ends_hold, first_failure, here};
 ghost use Rattle.diagram_terms.specs.Tree.{heights, regs, sings};
 ghost use Rattle.hashcons.specs.Contents.{IsDiagramOf, IsArrowOf, Grows, IsStore, diagram_at, arrow_at};
-ghost use Rattle.zigzag_maps.specs.Found.{IsValidDiagram};
+ghost use Rattle.zigzag_maps.specs.Found.{IsValidDiagram, IsValidMap};
 ghost use Rattle.zigzag_maps.specs.Keeps.{AreRight};
 ghost use Rattle.zigzag_maps.specs.Visits.{IsMapAt, FitsEnds, HasValidSlices, arrow_fault, fault_of, lengths_are, place_in, reg_tests, sing_tests, square_tests, square_holds, tests_between};
 
@@ -24,6 +24,7 @@ pub fn squares(alloc: Global, store: &mut Store, f: Map) -> Result<SquareTest, A
     requires arrow { IsArrowOf store.old f.arrow }
     ensures exact { IfOk result (λ test. fault_of test
         ≡ arrow_fault (diagram_at store.old f.source) (diagram_at store.old f.target) (arrow_at store.old f.arrow)) }
+    ensures yes { IfOk result (λ test. (test ≡ SquareTest.Valid) ↔ IsValidMap store.new f) }
     ensures grows { Grows store.old store.new }
     ensures store { IsStore store.new }
 {
@@ -47,7 +48,8 @@ pub(crate) fn outcome_of(found: Option<Place>) -> SquareTest
     }
 }
 
-pub(crate) fn place_here(alloc: Global, end: End) -> Place
+/// The place right here, with no step to it.
+pub fn place_here(alloc: Global, end: End) -> Place
     ensures { result ≡ record { steps = []; end = end } }
 {
     Place {
@@ -57,7 +59,7 @@ pub(crate) fn place_here(alloc: Global, end: End) -> Place
 }
 
 /// What was found, as seen from one step further out.
-pub(crate) fn found_in(
+pub fn found_in(
     alloc: Global,
     step: Step,
     found: Option<Place>,
@@ -106,6 +108,7 @@ pub(crate) fn map_fault(
     Ok(None)
 }
 
+/// Where an arrow that is not kept as valid fails first.
 #[cycle(faults)]
 #[tactic(auto, using(crate::proofs::FaultSteps::faults))]
 fn fault_anew(

@@ -5,6 +5,7 @@ ghost use Rattle.diagram_terms.specs.Shape.{reg_at, sing_at};
 ghost use Rattle.diagram_terms.specs.Tree.{sings};
 ghost use Rattle.hashcons.specs.Contents.{IsDiagramOf, IsArrowOf, Grows, IsStore, diagram_at, arrow_at};
 ghost use Rattle.hashcons.specs.Gathers.{Gathers};
+ghost use Rattle.zigzag_maps.specs.Found.{IsValidDiagram, IsValidMap};
 ghost use Rattle.zigzag_maps.specs.Keeps.{AreRight};
 ghost use Rattle.zigzag_maps.specs.Trees.{identity_tree};
 
@@ -22,6 +23,7 @@ pub fn identity(alloc: Global, store: &mut Store, d: DiagramId) -> Result<Map, A
     ensures of_store { IfOk result (λ m. IsArrowOf store.new m.arrow) }
     ensures tree { IfOk result (λ m.
         arrow_at store.new m.arrow ≡ identity_tree (diagram_at store.old d)) }
+    ensures valid { IsValidDiagram store.old d → IfOk result (IsValidMap store.new) }
     ensures grows { Grows store.old store.new }
     ensures store { IsStore store.new }
 {
@@ -63,6 +65,7 @@ pub(crate) fn identity_arrow(
     Ok(arrow)
 }
 
+/// The identity arrow of a diagram for which none is kept.
 #[cycle(identities)]
 #[tactic(auto, using(crate::proofs::IdentityLemmas::identifies))]
 fn identity_anew(

@@ -11,7 +11,7 @@ mod outcome;
 mod validity;
 
 pub use composites::compose;
-pub use faults::squares;
+pub use faults::{found_in, place_here, squares};
 pub use identities::identity;
 pub use map::Map;
 pub use outcome::SquareTest;

@@ -1,7 +1,8 @@
-ghost use Rattle.std.specs.Prelude.{◌≡◌, ◌-◌, ◌<◌, ◌≤◌, IfOk, length, suc};
+ghost use Rattle.std.specs.Prelude.{◌≡◌, ◌↔◌, ◌-◌, ◌<◌, ◌≤◌, IfOk, length, suc};
 ghost use Rattle.diagram_terms.specs.Places.{at_each, first_failure};
 ghost use Rattle.diagram_terms.specs.Tree.{sings};
 ghost use Rattle.hashcons.specs.Contents.{IsDiagramOf, Grows, IsStore, diagram_at};
+ghost use Rattle.zigzag_maps.specs.Found.{IsValidDiagram};
 ghost use Rattle.zigzag_maps.specs.Keeps.{AreRight};
 ghost use Rattle.zigzag_maps.specs.Validity.{IsDiagramAt, HasValidParts, tests_in, reg_slice_tests, sing_slice_tests, fwd_tests, bwd_tests, leg_tests};
 ghost use Rattle.zigzag_maps.specs.Visits.{diagram_fault as diagram_fault_of, fault_of};
@@ -18,6 +19,7 @@ use std::alloc::{AllocError, Global};
 pub fn valid(alloc: Global, store: &mut Store, d: DiagramId) -> Result<SquareTest, AllocError>
     requires of_store { IsDiagramOf store.old d }
     ensures exact { IfOk result (λ test. fault_of test ≡ diagram_fault_of (diagram_at store.old d)) }
+    ensures yes { IfOk result (λ test. (test ≡ SquareTest.Valid) ↔ IsValidDiagram store.new d) }
     ensures grows { Grows store.old store.new }
     ensures store { IsStore store.new }
 {

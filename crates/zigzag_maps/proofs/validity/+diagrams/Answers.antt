@@ -1,4 +1,4 @@
-use Rattle.std.proofs.Common.{◌≡◌, ◌<◌, suc, length, IfOk, Option, Some, None, sym, ap, subst, ◌∙◌, rules, arith}
+use Rattle.std.proofs.Common.{◌≡◌, suc, length, IfOk, Option, sym, ap, subst, ◌∙◌, rules, arith}
 use Rattle.diagram_terms.specs.declared.place.Place.{Place}
 use Rattle.diagram_terms.specs.Places.{first_failure, at_each}
 use Rattle.diagram_terms.specs.Tree.{sings}

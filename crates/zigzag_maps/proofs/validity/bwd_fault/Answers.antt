@@ -1,4 +1,4 @@
-use Rattle.std.proofs.Common.{◌≡◌, ◌+◌, suc, length, IfOk, Option, sym, ap, ◌∙◌, subst, rules, arith}
+use Rattle.std.proofs.Common.{◌≡◌, IfOk, Option, ap, ◌∙◌, subst, arith}
 use Rattle.diagram_terms.specs.declared.place.Place.{Place}
 use Rattle.diagram_terms.specs.Shape.{reg_at}
 use Rattle.hashcons.specs.Contents.{diagram_at}

@@ -1,4 +1,4 @@
-use Rattle.std.proofs.Common.{◌≡◌, suc, length, IfOk, Option, subst, rules, arith}
+use Rattle.std.proofs.Common.{◌≡◌, IfOk, Option, subst, arith}
 use Rattle.diagram_terms.specs.declared.place.Place.{Place}
 use Rattle.zigzag_maps.proofs.ValidityLemmas.{legs_len}
 use Rattle.zigzag_maps.proofs.ValiditySteps.{fwd_leg, fwd_found}

@@ -1,8 +1,8 @@
-use Rattle.std.proofs.Common.{◌≡◌, length, Some, None, sym, ap, ◌∙◌, arith}
+use Rattle.std.proofs.Common.{length, sym, ap, ◌∙◌, arith}
 use Rattle.diagram_terms.specs.Places.{first_failure}
 use Rattle.diagram_terms.specs.Tree.{sings}
 use Rattle.diagram_terms.proofs.Visiting.{append_fails, append_passes}
-use Rattle.zigzag_maps.proofs.Visiting.{visit_start, visit_fails, visit_passes}
+use Rattle.zigzag_maps.proofs.Visiting.{visit_fails, visit_passes}
 use Rattle.hashcons.specs.Contents.{diagram_at}
 use Rattle.hashcons.proofs.Growth.{Grows-trans}
 use Rattle.zigzag_maps.specs.Validity.{fwd_tests, bwd_tests, leg_tests}
