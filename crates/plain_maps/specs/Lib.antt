@@ -1,0 +1,2 @@
+pub mod PlainKeeps
+pub mod Plainness
