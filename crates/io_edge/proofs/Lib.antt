@@ -1,4 +1,8 @@
+pub mod AllLines
 mod Bytes
 pub mod Inputs
+pub mod LineEnds
+pub mod LinesTaken
 pub mod Parts
+pub mod Readers
 pub mod Rises

@@ -4,6 +4,7 @@
 //! which bytes a call moved and that it gave up only because the outside failed.
 #![tactic(auto)]
 
+mod lines;
 mod memory;
 mod script;
 mod standard;
@@ -11,6 +12,7 @@ mod sure;
 mod traits;
 mod whole;
 
+pub use lines::{LineFault, LineReader};
 pub use memory::{MemSink, MemSource};
 pub use standard::{StdSink, StdSource};
 pub use sure::{SureSink, SureSource};
