@@ -2,11 +2,15 @@
 use Rattle.std.proofs.Common.{◌≡◌, [], ◌∷◌, codes, Some, None, refl}
 use Rattle.std.specs.Fmt.{digits}
 use Rattle.serde_json.proofs.OnLiterals.{serde_json_on_literals}
+use Rattle.diagram_terms.specs.declared.node.Node.TheVariants as node
+use Rattle.diagram_terms.specs.declared.place.Height.TheVariants as height
 use Rattle.diagram_terms.specs.declared.place.Step.TheVariants as step
 use Rattle.diagram_terms.specs.declared.place.End.TheVariants as at_end
-use Rattle.workspace_json.specs.declared.fault.Field.TheVariants as field
-use Rattle.workspace_json.specs.declared.fault.FormFault.TheVariants as fault
-use Rattle.workspace_json.specs.declared.reply.Reply.TheVariants.{Look}
+use Rattle.node_json.specs.declared.fault.Field.TheVariants as field
+use Rattle.node_json.specs.declared.fault.FormFault.TheVariants as fault
+use Rattle.workspace_json.specs.declared.reply.Reply.TheVariants.{Look, Slice, Refused}
+use Rattle.workspace_json.specs.declared.refusal.Refusal.TheVariants.{Unknown, NoHeight}
+use Rattle.workspace_json.specs.Paths.{number_in, height_in, path_text, path_in}
 use Rattle.workspace_json.specs.Places.{place_text}
 use Rattle.workspace_json.specs.Replies.{text_of_reply, text_of_fault}
 
@@ -31,6 +35,19 @@ looks_bad : text_of_reply (Look 2 1 (codes "D") (Some (record { steps = step.F 0
 unfolding digits serde_json_on_literals
 looks_bad = refl
 
+slices : text_of_reply (Slice (node.Label (record { number = 3; dim = 0 }) ∷ node.Diagram (0 ∷ []) [] [] [] ∷ []) 1)
+    ≡ codes "{\"nodes\":[{\"label\":[3,0]},{\"bwds\":[],\"fwds\":[],\"regs\":[0],\"sings\":[]}],\"ok\":\"slice\",\"root\":1}"
+unfolding digits serde_json_on_literals
+slices = refl
+
+unknown_name : text_of_reply (Refused (Unknown (codes "F"))) ≡ codes "{\"name\":\"F\",\"refused\":\"Unknown\"}"
+unfolding serde_json_on_literals
+unknown_name = refl
+
+no_height : text_of_reply (Refused (NoHeight 2)) ≡ codes "{\"refused\":\"NoHeight\",\"step\":2}"
+unfolding digits serde_json_on_literals
+no_height = refl
+
 not_json : text_of_fault fault.NotJson ≡ codes "{\"refused\":\"NotJson\"}"
 unfolding serde_json_on_literals
 not_json = refl
@@ -46,3 +63,81 @@ wrong_entry = refl
 wrong_node : text_of_fault (fault.Early 7) ≡ codes "{\"node\":7,\"refused\":\"Early\"}"
 unfolding digits serde_json_on_literals
 wrong_node = refl
+
+-- ---- paths
+
+empty_path : path_in (codes ".") ≡ Some ([])
+unfolding number_in height_in
+empty_path = refl
+
+one_step : path_in (codes "s0") ≡ Some (height.S 0 ∷ [])
+unfolding number_in height_in
+one_step = refl
+
+two_steps : path_in (codes "s0,r1") ≡ Some (height.S 0 ∷ height.R 1 ∷ [])
+unfolding number_in height_in
+two_steps = refl
+
+two_digits : path_in (codes "r12") ≡ Some (height.R 12 ∷ [])
+unfolding number_in height_in
+two_digits = refl
+
+greatest_number : path_in (codes "r4294967295") ≡ Some (height.R 4294967295 ∷ [])
+unfolding number_in height_in
+greatest_number = refl
+
+two_steps_text : path_text (height.S 0 ∷ height.R 12 ∷ []) ≡ codes "s0,r12"
+unfolding digits
+two_steps_text = refl
+
+leading_zero : path_in (codes "s01") ≡ None
+unfolding number_in height_in
+leading_zero = refl
+
+no_number : path_in (codes "s") ≡ None
+unfolding number_in height_in
+no_number = refl
+
+no_word : path_in (codes "") ≡ None
+unfolding number_in height_in
+no_word = refl
+
+trailing_comma : path_in (codes "s0,") ≡ None
+unfolding number_in height_in
+trailing_comma = refl
+
+leading_comma : path_in (codes ",s0") ≡ None
+unfolding number_in height_in
+leading_comma = refl
+
+two_commas : path_in (codes "s0,,r1") ≡ None
+unfolding number_in height_in
+two_commas = refl
+
+empty_step : path_in (codes ".,s0") ≡ None
+unfolding number_in height_in
+empty_step = refl
+
+other_letter : path_in (codes "t0") ≡ None
+unfolding number_in height_in
+other_letter = refl
+
+minus : path_in (codes "s-1") ≡ None
+unfolding number_in height_in
+minus = refl
+
+plus : path_in (codes "s+1") ≡ None
+unfolding number_in height_in
+plus = refl
+
+too_great : path_in (codes "s4294967296") ≡ None
+unfolding number_in height_in
+too_great = refl
+
+trailing_space : path_in (codes "s0 ") ≡ None
+unfolding number_in height_in
+trailing_space = refl
+
+capital : path_in (codes "S0") ≡ None
+unfolding number_in height_in
+capital = refl

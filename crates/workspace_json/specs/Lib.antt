@@ -1,9 +1,4 @@
-pub mod Step
-pub mod Json
-pub mod Names
-pub mod NodeForms
-pub mod Entries
-pub mod Reading
-pub mod Documents
 pub mod Places
+pub mod Paths
 pub mod Replies
+pub mod Commands

@@ -1,21 +1,24 @@
-//! The bytes of documents and replies.
+//! The bytes of commands, replies, form faults and paths, and of documents through `node_json`.
 #![tactic(auto)]
 
-mod document;
-mod entries;
-mod fault;
-mod json;
-mod names;
-mod nodes;
-mod reading;
+mod command;
+mod commands;
+mod path_laws;
+mod paths;
+mod refusal;
 mod reply;
-mod sorts;
 mod texts;
 mod writing;
 
-pub use document::{DiagramEntry, Document, GeneratorEntry, MapEntry};
-pub use fault::{Field, FormFault};
-pub use reading::read_document;
+pub use command::Command;
+pub use commands::read_command;
+pub use node_json::{
+    DiagramEntry, Document, Field, FormFault, GeneratorEntry, MapEntry, document_text,
+    documents_are_read_back, read_document,
+};
+pub use path_laws::paths_are_told_by_their_text;
+pub use paths::{height_of, is_path, path_of};
+pub use refusal::Refusal;
 pub use reply::Reply;
 pub use writing::{form_text, reply_text};
 

@@ -1,4 +1,5 @@
-use diagram_terms::{Place, Text};
+use crate::refusal::Refusal;
+use diagram_terms::{Items, Node, Place, Text};
 
 /// One line of output.
 #[derive(Debug, Drop)]
@@ -10,4 +11,12 @@ pub enum Reply {
         name: Text,
         at: Option<Place>,
     },
+    /// The slice of a diagram: its distinct subtrees as nodes, and the place of the slice among
+    /// them.
+    Slice {
+        nodes: Items<Node>,
+        root: usize,
+    },
+    /// A question that has no answer.
+    Refused(Refusal),
 }

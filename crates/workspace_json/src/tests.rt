@@ -1,379 +1,9 @@
-use crate::{Field, FormFault, Reply, form_text, read_document, reply_text};
-use diagram_terms::{End, Items, Place, Step, Text};
+use crate::{
+    Command, Field, FormFault, Refusal, Reply, form_text, path_of, read_command, reply_text,
+};
+use diagram_terms::{End, Height, Items, Label, Node, Place, Step, Text};
 use std::alloc::Global;
 use std::test::Fail;
-
-fn fault_of(alloc: Global, text: &str) -> Option<FormFault> {
-    read_document(alloc, text.as_bytes()).err()
-}
-
-fn field(field: Field) -> Option<FormFault> {
-    Some(FormFault::Form { field, entry: None })
-}
-
-fn entry(field: Field, entry: usize) -> Option<FormFault> {
-    Some(FormFault::Form {
-        field,
-        entry: Some(entry),
-    })
-}
-
-/// A document with these texts between the brackets of its lists.
-fn document(
-    alloc: Global,
-    generators: &str,
-    diagrams: &str,
-    maps: &str,
-    nodes: &str,
-) -> Result<String, Fail> {
-    Ok(format!(in alloc;
-        "{{\"diagrams\":[{diagrams}],\"format\":1,\"generators\":[{generators}],\"maps\":[{maps}],\"nodes\":[{nodes}]}}"
-    )?)
-}
-
-#[test]
-fn reads_numbers(rt: HostRuntime) -> Result<(), Fail> {
-    let alloc = rt.alloc();
-    let wrong = entry(Field::Diagrams, 0);
-    let cases = [
-        ("0", None),
-        (" 0 ", None),
-        ("0.0", wrong),
-        ("0e0", wrong),
-        ("-0", wrong),
-        ("1", wrong),
-        ("00", Some(FormFault::NotJson)),
-        ("18446744073709551615", wrong),
-        ("18446744073709551616", wrong),
-        ("1e400", Some(FormFault::NotJson)),
-        ("true", wrong),
-        ("0,\"root\":0", None),
-        ("7,\"root\":0", None),
-        ("0,\"root\":7", wrong),
-        ("0,\"other\":0", wrong),
-    ];
-    for (root, want) in cases {
-        let diagram = format!(in alloc; "{{\"name\":\"X\",\"root\":{root}}}")?;
-        let text = document(alloc, "", diagram.as_str(), "", "{\"label\":[0,0]}")?;
-        assert_eq!(rt; fault_of(alloc, text.as_str()), want, "{root}");
-    }
-    Ok(())
-}
-
-#[test]
-fn reads_nodes(rt: HostRuntime) -> Result<(), Fail> {
-    let alloc = rt.alloc();
-    let shape = |place: usize| Some(FormFault::Shape(place));
-    let early = |place: usize| Some(FormFault::Early(place));
-    let label = |place: usize| Some(FormFault::Label(place));
-    let cases = [
-        ("{\"label\":[59999,6]}", None),
-        ("{\"label\":[60000,0]}", label(0)),
-        ("{\"label\":[0,7]}", label(0)),
-        ("{\"label\":[18446744073709551615,0]}", label(0)),
-        ("{\"label\":[18446744073709551616,0]}", shape(0)),
-        ("{\"label\":[1.0,0]}", shape(0)),
-        ("{\"label\":[0,-0]}", shape(0)),
-        ("{\"label\":[0]}", shape(0)),
-        ("{\"label\":[0,0,0]}", shape(0)),
-        ("{\"label\":[0,0],\"label\":[1,1]}", None),
-        ("{\"label\":[70000,0],\"other\":1}", shape(0)),
-        ("{\"labels\":[[0,0],[70000,0]]}", label(0)),
-        ("{\"labels\":[[70000,0],[0]]}", shape(0)),
-        ("{\"labels\":[[0,0]]}", shape(0)),
-        ("{\"labels\":[0,0]}", shape(0)),
-        ("{}", shape(0)),
-        ("[]", shape(0)),
-        ("{\"label\":[0,0]},{\"label\":[0,7]}", label(1)),
-        (
-            "{\"bwds\":[],\"fwds\":[],\"regs\":[1],\"sings\":[]},{\"label\":[0,0]}",
-            early(0),
-        ),
-        (
-            "{\"bwds\":[],\"fwds\":[],\"regs\":[0],\"sings\":[]}",
-            early(0),
-        ),
-        (
-            "{\"bwds\":[],\"fwds\":[],\"regs\":[],\"sings\":[]}",
-            shape(0),
-        ),
-    ];
-    for (nodes, want) in cases {
-        let text = document(alloc, "", "", "", nodes)?;
-        assert_eq!(rt; fault_of(alloc, text.as_str()), want, "{nodes}");
-    }
-    Ok(())
-}
-
-#[test]
-fn fits_parts(rt: HostRuntime) -> Result<(), Fail> {
-    let alloc = rt.alloc();
-    let shape = Some(FormFault::Shape(4));
-    let early = Some(FormFault::Early(4));
-    let cases = [
-        (
-            "{\"bwds\":[2],\"fwds\":[2],\"regs\":[0,0],\"sings\":[1]}",
-            None,
-        ),
-        (
-            "{\"bwds\":[2],\"fwds\":[2],\"regs\":[0],\"sings\":[1]}",
-            shape,
-        ),
-        (
-            "{\"bwds\":[2],\"fwds\":[],\"regs\":[0,0],\"sings\":[1]}",
-            shape,
-        ),
-        (
-            "{\"bwds\":[],\"fwds\":[2],\"regs\":[0,0],\"sings\":[1]}",
-            shape,
-        ),
-        (
-            "{\"bwds\":[4],\"fwds\":[],\"regs\":[0],\"sings\":[]}",
-            early,
-        ),
-        (
-            "{\"bwds\":[2],\"fwds\":[2],\"regs\":[0,2],\"sings\":[1]}",
-            shape,
-        ),
-        (
-            "{\"bwds\":[2],\"fwds\":[1],\"regs\":[0,0],\"sings\":[1]}",
-            shape,
-        ),
-        (
-            "{\"bwds\":[2],\"fwds\":[2],\"regs\":[0,3],\"sings\":[1]}",
-            shape,
-        ),
-        ("{\"bwds\":[],\"fwds\":[],\"regs\":[3],\"sings\":[]}", None),
-        ("{\"bwds\":[],\"fwds\":[],\"regs\":[2],\"sings\":[]}", shape),
-        ("{\"heights\":[0],\"regs\":[2,2],\"sings\":[2]}", None),
-        ("{\"heights\":[0,0],\"regs\":[2,2],\"sings\":[2,2]}", None),
-        ("{\"heights\":[],\"regs\":[2],\"sings\":[]}", None),
-        (
-            "{\"heights\":[1,0],\"regs\":[2,2,2],\"sings\":[2,2]}",
-            shape,
-        ),
-        ("{\"heights\":[1],\"regs\":[2,2],\"sings\":[2]}", shape),
-        ("{\"heights\":[4],\"regs\":[2,2],\"sings\":[4]}", early),
-        ("{\"heights\":[0],\"regs\":[2,2],\"sings\":[]}", shape),
-        ("{\"heights\":[],\"regs\":[],\"sings\":[]}", shape),
-        ("{\"heights\":[0],\"regs\":[2,2],\"sings\":[0]}", shape),
-        ("{\"heights\":[0],\"regs\":[0,0],\"sings\":[0]}", shape),
-    ];
-    for (last, want) in cases {
-        let nodes = format!(in alloc;
-            "{{\"label\":[0,0]}},{{\"label\":[1,1]}},{{\"labels\":[[0,0],[1,1]]}},{{\"bwds\":[],\"fwds\":[],\"regs\":[0],\"sings\":[]}},{last}"
-        )?;
-        let text = document(alloc, "", "", "", nodes.as_str())?;
-        assert_eq!(rt; fault_of(alloc, text.as_str()), want, "{last}");
-    }
-    for (top, want) in [(6usize, None), (7, Some(FormFault::Shape(7)))] {
-        let mut nodes = String::from_str(alloc, "{\"label\":[0,0]}")?;
-        for place in 0..top {
-            let node = format!(in alloc;
-                ",{{\"bwds\":[],\"fwds\":[],\"regs\":[{place}],\"sings\":[]}}"
-            )?;
-            nodes.push_str(node.as_str())?;
-        }
-        let text = document(alloc, "", "", "", nodes.as_str())?;
-        assert_eq!(rt; fault_of(alloc, text.as_str()), want, "{top}");
-    }
-    Ok(())
-}
-
-#[test]
-fn reads_entries(rt: HostRuntime) -> Result<(), Fail> {
-    let alloc = rt.alloc();
-    let root = "{\"name\":\"X\",\"root\":0}";
-    let map = "{\"arrow\":1,\"name\":\"L\",\"source\":0,\"target\":0}";
-    let cases = [
-        ("{\"name\":\"x\"}", root, map, None),
-        (
-            "{\"name\":\"f\",\"source\":0,\"target\":0}",
-            root,
-            map,
-            None,
-        ),
-        (
-            "{\"name\":\"f\",\"source\":0}",
-            root,
-            map,
-            entry(Field::Generators, 0),
-        ),
-        (
-            "{\"name\":\"x\"},{\"name\":\"f\",\"source\":0,\"target\":1}",
-            root,
-            map,
-            entry(Field::Generators, 1),
-        ),
-        (
-            "{\"name\":\"x\"},{\"name\":\"f\",\"source\":2,\"target\":0}",
-            root,
-            map,
-            entry(Field::Generators, 1),
-        ),
-        (
-            "{\"name\":\"x\"},{\"name\":\"x\"}",
-            root,
-            map,
-            entry(Field::Generators, 1),
-        ),
-        ("{\"name\":\"X\"}", root, map, entry(Field::Diagrams, 0)),
-        ("{\"name\":\"L\"}", root, map, entry(Field::Maps, 0)),
-        (
-            "",
-            root,
-            "{\"arrow\":0,\"name\":\"L\",\"source\":0,\"target\":0}",
-            entry(Field::Maps, 0),
-        ),
-        (
-            "",
-            root,
-            "{\"arrow\":1,\"name\":\"L\",\"source\":1,\"target\":0}",
-            entry(Field::Maps, 0),
-        ),
-        (
-            "",
-            root,
-            "{\"arrow\":1,\"name\":\"X\",\"source\":0,\"target\":0}",
-            entry(Field::Maps, 0),
-        ),
-        (
-            "",
-            "{\"name\":\"X\",\"root\":1}",
-            map,
-            entry(Field::Diagrams, 0),
-        ),
-        (
-            "",
-            "{\"name\":7,\"root\":0}",
-            map,
-            entry(Field::Diagrams, 0),
-        ),
-    ];
-    let nodes = "{\"label\":[0,0]},{\"labels\":[[0,0],[0,0]]}";
-    for (generators, diagrams, maps, want) in cases {
-        let text = document(alloc, generators, diagrams, maps, nodes)?;
-        assert_eq!(rt;
-            fault_of(alloc, text.as_str()),
-            want,
-            "{generators} {diagrams} {maps}"
-        );
-    }
-    Ok(())
-}
-
-#[test]
-fn reads_names(rt: HostRuntime) -> Result<(), Fail> {
-    let alloc = rt.alloc();
-    let wrong = entry(Field::Diagrams, 0);
-    let longest = "0123456789012345678901234567890123456789012345678901234567890123";
-    let too_long = "01234567890123456789012345678901234567890123456789012345678901234";
-    let cases = [
-        (longest, None),
-        (too_long, wrong),
-        ("", wrong),
-        ("!~", None),
-        ("a b", wrong),
-        ("a:b", wrong),
-        ("a\\\"b", wrong),
-        ("a\\\\b", wrong),
-        ("a\\u0020b", wrong),
-        ("\\u0041", None),
-        ("a\u{7f}", wrong),
-        ("a\u{e9}", wrong),
-    ];
-    for (name, want) in cases {
-        let diagram = format!(in alloc; "{{\"name\":\"{name}\",\"root\":0}}")?;
-        let text = document(alloc, "", diagram.as_str(), "", "{\"label\":[0,0]}")?;
-        assert_eq!(rt; fault_of(alloc, text.as_str()), want, "{name}");
-    }
-    Ok(())
-}
-
-#[test]
-fn counts_generators(rt: HostRuntime) -> Result<(), Fail> {
-    let alloc = rt.alloc();
-    let mut generators = String::from_str(alloc, "{\"name\":\"g0\"}")?;
-    for number in 1usize..60_000 {
-        generators.push_str(format!(in alloc; ",{{\"name\":\"g{number}\"}}")?.as_str())?;
-    }
-    let text = document(alloc, generators.as_str(), "", "", "")?;
-    assert_eq!(rt; fault_of(alloc, text.as_str()), None);
-    generators.push_str(",{\"name\":\"last\"}")?;
-    let text = document(alloc, generators.as_str(), "", "", "")?;
-    assert_eq!(rt;
-        fault_of(alloc, text.as_str()),
-        entry(Field::Generators, 60_000)
-    );
-    Ok(())
-}
-
-#[test]
-fn reads_fields(rt: HostRuntime) -> Result<(), Fail> {
-    let alloc = rt.alloc();
-    let cases = [
-        ("", Some(FormFault::NotJson)),
-        ("{}", field(Field::Document)),
-        ("[]", field(Field::Document)),
-        (
-            "{\"diagrams\":[],\"format\":1,\"generators\":[],\"maps\":[],\"nodes\":[],\"x\":0}",
-            field(Field::Document),
-        ),
-        (
-            "{\"diagrams\":0,\"format\":2,\"generators\":0,\"maps\":0,\"nodes\":0}",
-            field(Field::Format),
-        ),
-        (
-            "{\"diagrams\":0,\"format\":1.0,\"generators\":0,\"maps\":0,\"nodes\":0}",
-            field(Field::Format),
-        ),
-        (
-            "{\"diagrams\":0,\"format\":1,\"generators\":0,\"maps\":0,\"nodes\":{}}",
-            field(Field::Nodes),
-        ),
-        (
-            "{\"diagrams\":0,\"format\":1,\"generators\":0,\"maps\":0,\"nodes\":[0]}",
-            Some(FormFault::Shape(0)),
-        ),
-        (
-            "{\"diagrams\":0,\"format\":1,\"generators\":0,\"maps\":0,\"nodes\":[]}",
-            field(Field::Generators),
-        ),
-        (
-            "{\"diagrams\":0,\"format\":1,\"generators\":[],\"maps\":0,\"nodes\":[]}",
-            field(Field::Diagrams),
-        ),
-        (
-            "{\"diagrams\":[],\"format\":1,\"generators\":[],\"maps\":0,\"nodes\":[]}",
-            field(Field::Maps),
-        ),
-    ];
-    for (text, want) in cases {
-        assert_eq!(rt; fault_of(alloc, text), want, "{text}");
-    }
-    for (depth, want) in [
-        (127usize, field(Field::Document)),
-        (128, Some(FormFault::NotJson)),
-    ] {
-        let mut text = String::new(alloc);
-        for _ in 0..depth {
-            text.push_str("[")?;
-        }
-        for _ in 0..depth {
-            text.push_str("]")?;
-        }
-        assert_eq!(rt; fault_of(alloc, text.as_str()), want, "{depth}");
-    }
-    Ok(())
-}
-
-#[test]
-fn tells_bytes_that_are_not_json(rt: HostRuntime) {
-    let alloc = rt.alloc();
-    for bytes in [b"\xff".as_slice(), b"\"\xff\"", b"", b"{\"diagrams\":["] {
-        assert_eq!(rt; read_document(alloc, bytes).err(), Some(FormFault::NotJson));
-    }
-}
 
 fn look(alloc: Global, name: &str, at: Option<Place>) -> Result<Reply, Fail> {
     Ok(Reply::Look {
@@ -418,5 +48,171 @@ fn writes_lines(rt: HostRuntime) -> Result<(), Fail> {
     assert!(rt;
         text.as_slice() == b"{\"entry\":2,\"field\":\"diagrams\",\"refused\":\"Form\"}".as_slice()
     );
+    Ok(())
+}
+
+#[test]
+fn writes_answers(rt: HostRuntime) -> Result<(), Fail> {
+    let alloc = rt.alloc();
+    let mut nodes = Items::new(alloc);
+    nodes.push(Node::Label(Label { number: 3, dim: 0 }))?;
+    nodes.push(Node::Diagram {
+        regs: Items::from_slice(alloc, &[0])?,
+        sings: Items::new(alloc),
+        fwds: Items::new(alloc),
+        bwds: Items::new(alloc),
+    })?;
+    let text = reply_text(alloc, &Reply::Slice { nodes, root: 1 })?;
+    assert!(rt;
+        text.as_slice()
+            == b"{\"nodes\":[{\"label\":[3,0]},{\"bwds\":[],\"fwds\":[],\"regs\":[0],\"sings\":[]}],\"ok\":\"slice\",\"root\":1}".as_slice()
+    );
+    let name = Text::from_string(String::from_str(alloc, "a\"")?);
+    let text = reply_text(alloc, &Reply::Refused(Refusal::Unknown { name }))?;
+    assert!(rt; text.as_slice() == b"{\"name\":\"a\\\"\",\"refused\":\"Unknown\"}".as_slice());
+    let text = reply_text(alloc, &Reply::Refused(Refusal::NoHeight { step: 2 }))?;
+    assert!(rt; text.as_slice() == b"{\"refused\":\"NoHeight\",\"step\":2}".as_slice());
+    Ok(())
+}
+
+#[test]
+fn reads_paths(rt: HostRuntime) -> Result<(), Fail> {
+    let alloc = rt.alloc();
+    let one = [Height::R(12)];
+    let three = [Height::S(0), Height::R(1), Height::S(4_294_967_295)];
+    for (word, want) in [
+        (".", [].as_slice()),
+        ("r12", one.as_slice()),
+        ("s0,r1,s4294967295", three.as_slice()),
+    ] {
+        let path = path_of(alloc, word)?.ok_or("no path")?;
+        assert!(rt; path.as_slice() == want, "{word}");
+    }
+    for word in [
+        "",
+        "s",
+        "s01",
+        "s0,",
+        ",s0",
+        "s0,,r1",
+        ".,s0",
+        "t0",
+        "s-1",
+        "s+1",
+        "s4294967296",
+        "s18446744073709551616",
+        "s0 ",
+        "S0",
+        "s\u{660}",
+    ] {
+        assert!(rt; path_of(alloc, word)?.is_none(), "{word}");
+    }
+    Ok(())
+}
+
+#[test]
+fn reads_commands(rt: HostRuntime) -> Result<(), Fail> {
+    let alloc = rt.alloc();
+    for (line, want) in [
+        (
+            "{\"do\":\"generator\",\"name\":\"x\"}",
+            "Generator { name: Text { text: \"x\" }, source: None, target: None }",
+        ),
+        (
+            "{\"do\":\"generator\",\"name\":\"f\",\"source\":\"x\",\"target\":\"y\"}",
+            "Generator { name: Text { text: \"f\" }, source: Some(Text { text: \"x\" }), target: Some(Text { text: \"y\" }) }",
+        ),
+        (
+            "{\"of\":\"f\",\"name\":\"\",\"do\":\"identity\"}",
+            "Identity { name: Text { text: \"\" }, of: Text { text: \"f\" } }",
+        ),
+        (
+            "{\"do\":\"boundary\",\"name\":\"b\",\"of\":\"f\",\"side\":\"target\"}",
+            "Boundary { name: Text { text: \"b\" }, of: Text { text: \"f\" }, side: Target }",
+        ),
+        (
+            "{\"do\":\"equal\",\"one\":\"x\",\"two\":\"\\u0079\"}",
+            "Equal { one: Text { text: \"x\" }, two: Text { text: \"y\" } }",
+        ),
+        (
+            "{\"do\":\"drop\",\"name\":\"a b\"}",
+            "Drop { name: Text { text: \"a b\" } }",
+        ),
+        ("{\"do\":\"stats\"}", "Stats"),
+        ("{\"do\":\"save\"}", "Save"),
+        (" { \"do\" : \"undo\" } ", "Undo"),
+        ("{\"do\":\"redo\"}", "Redo"),
+    ] {
+        let command = read_command(alloc, line.as_bytes())?;
+        let text = format!(in alloc; "{command:?}")?;
+        assert!(rt; text.as_str() == want, "{line}");
+    }
+    let command = read_command(
+        alloc,
+        b"{\"do\":\"slice\",\"of\":\"f\",\"path\":[\"s0\",\"r12\"]}",
+    )?;
+    let Command::Slice { of, path } = &command else {
+        return Err("no slice".into());
+    };
+    assert!(rt; of.as_str() == "f");
+    assert!(rt; path.as_slice() == [Height::S(0), Height::R(12)].as_slice());
+    Ok(())
+}
+
+#[test]
+fn refuses_commands(rt: HostRuntime) -> Result<(), Fail> {
+    let alloc = rt.alloc();
+    let field = |field: Field| Some(FormFault::Form { field, entry: None });
+    for (line, want) in [
+        ("", Some(FormFault::NotJson)),
+        ("{\"do\":\"undo\"", Some(FormFault::NotJson)),
+        ("\"undo\"", field(Field::Command)),
+        ("[]", field(Field::Command)),
+        ("{}", field(Field::Do)),
+        ("{\"do\":[\"undo\"]}", field(Field::Do)),
+        ("{\"do\":\"Undo\",\"name\":1}", field(Field::Do)),
+        ("{\"do\":\"undo\",\"name\":1}", field(Field::Command)),
+        ("{\"do\":\"generator\"}", field(Field::Command)),
+        (
+            "{\"do\":\"generator\",\"name\":\"f\",\"target\":\"x\"}",
+            field(Field::Command),
+        ),
+        ("{\"do\":\"drop\",\"name\":1}", field(Field::Name)),
+        (
+            "{\"do\":\"generator\",\"name\":\"f\",\"source\":1,\"target\":2}",
+            field(Field::Source),
+        ),
+        (
+            "{\"do\":\"generator\",\"name\":\"f\",\"source\":\"x\",\"target\":2}",
+            field(Field::Target),
+        ),
+        (
+            "{\"do\":\"identity\",\"name\":\"i\",\"of\":null}",
+            field(Field::Of),
+        ),
+        (
+            "{\"do\":\"boundary\",\"name\":\"b\",\"of\":\"f\",\"side\":\"sources\"}",
+            field(Field::Side),
+        ),
+        (
+            "{\"do\":\"slice\",\"of\":\"f\",\"path\":\"s0\"}",
+            field(Field::Path),
+        ),
+        (
+            "{\"do\":\"slice\",\"of\":\"f\",\"path\":[\"s0\",\"s01\"]}",
+            field(Field::Path),
+        ),
+        (
+            "{\"do\":\"equal\",\"one\":{},\"two\":{}}",
+            field(Field::One),
+        ),
+        (
+            "{\"do\":\"equal\",\"one\":\"x\",\"two\":{}}",
+            field(Field::Two),
+        ),
+    ] {
+        let fault = read_command(alloc, line.as_bytes()).err();
+        assert_eq!(rt; fault, want, "{line}");
+    }
     Ok(())
 }

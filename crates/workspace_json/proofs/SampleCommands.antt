@@ -1,0 +1,148 @@
+-- The reading of lines as commands, by computation.
+use Rattle.std.proofs.Common.{◌≡◌, [], ◌∷◌, codes, Some, None, Ok, Err, refl}
+use Rattle.std.specs.Str.{is_utf8, chars}
+use Rattle.serde_json.proofs.OnLiterals.{serde_json_on_literals}
+use Rattle.diagram_terms.specs.declared.place.Height.TheVariants as height
+use Rattle.diagram_terms.specs.declared.place.Side.TheVariants as side
+use Rattle.node_json.specs.declared.fault.Field.TheVariants as field
+use Rattle.node_json.specs.declared.fault.FormFault.TheVariants as fault
+use Rattle.node_json.specs.Reading.{field_fault}
+use Rattle.workspace_json.specs.declared.command.Command.TheVariants as command
+use Rattle.workspace_json.specs.Paths.{number_in, height_in}
+use Rattle.workspace_json.specs.Commands.{generator_row, identity_row, boundary_row, slice_row, equal_row, drop_row, row_of, command_of, exact_command}
+
+-- ---- each row
+
+point : exact_command (codes "{\"do\":\"generator\",\"name\":\"x\"}") ≡ Ok (command.Generator (codes "x") None None)
+unfolding is_utf8 chars serde_json_on_literals number_in height_in generator_row identity_row boundary_row slice_row equal_row drop_row row_of command_of
+point = refl
+
+cell : exact_command (codes "{\"do\":\"generator\",\"name\":\"f\",\"source\":\"x\",\"target\":\"y\"}") ≡ Ok (command.Generator (codes "f") (Some (codes "x")) (Some (codes "y")))
+unfolding is_utf8 chars serde_json_on_literals number_in height_in generator_row identity_row boundary_row slice_row equal_row drop_row row_of command_of
+cell = refl
+
+identity : exact_command (codes "{\"do\":\"identity\",\"name\":\"i\",\"of\":\"x\"}") ≡ Ok (command.Identity (codes "i") (codes "x"))
+unfolding is_utf8 chars serde_json_on_literals number_in height_in generator_row identity_row boundary_row slice_row equal_row drop_row row_of command_of
+identity = refl
+
+boundary_source : exact_command (codes "{\"do\":\"boundary\",\"name\":\"b\",\"of\":\"f\",\"side\":\"source\"}") ≡ Ok (command.Boundary (codes "b") (codes "f") side.Source)
+unfolding is_utf8 chars serde_json_on_literals number_in height_in generator_row identity_row boundary_row slice_row equal_row drop_row row_of command_of
+boundary_source = refl
+
+boundary_target : exact_command (codes "{\"do\":\"boundary\",\"name\":\"b\",\"of\":\"f\",\"side\":\"target\"}") ≡ Ok (command.Boundary (codes "b") (codes "f") side.Target)
+unfolding is_utf8 chars serde_json_on_literals number_in height_in generator_row identity_row boundary_row slice_row equal_row drop_row row_of command_of
+boundary_target = refl
+
+slice : exact_command (codes "{\"do\":\"slice\",\"of\":\"f\",\"path\":[\"s0\",\"r12\"]}") ≡ Ok (command.Slice (codes "f") (height.S 0 ∷ height.R 12 ∷ []))
+unfolding is_utf8 chars serde_json_on_literals number_in height_in generator_row identity_row boundary_row slice_row equal_row drop_row row_of command_of
+slice = refl
+
+slice_itself : exact_command (codes "{\"do\":\"slice\",\"of\":\"f\",\"path\":[]}") ≡ Ok (command.Slice (codes "f") [])
+unfolding is_utf8 chars serde_json_on_literals number_in height_in generator_row identity_row boundary_row slice_row equal_row drop_row row_of command_of
+slice_itself = refl
+
+equal : exact_command (codes "{\"do\":\"equal\",\"one\":\"x\",\"two\":\"y\"}") ≡ Ok (command.Equal (codes "x") (codes "y"))
+unfolding is_utf8 chars serde_json_on_literals number_in height_in generator_row identity_row boundary_row slice_row equal_row drop_row row_of command_of
+equal = refl
+
+dropped : exact_command (codes "{\"do\":\"drop\",\"name\":\"x\"}") ≡ Ok (command.Drop (codes "x"))
+unfolding is_utf8 chars serde_json_on_literals number_in height_in generator_row identity_row boundary_row slice_row equal_row drop_row row_of command_of
+dropped = refl
+
+stats : exact_command (codes "{\"do\":\"stats\"}") ≡ Ok command.Stats
+unfolding is_utf8 chars serde_json_on_literals number_in height_in generator_row identity_row boundary_row slice_row equal_row drop_row row_of command_of
+stats = refl
+
+save : exact_command (codes "{\"do\":\"save\"}") ≡ Ok command.Save
+unfolding is_utf8 chars serde_json_on_literals number_in height_in generator_row identity_row boundary_row slice_row equal_row drop_row row_of command_of
+save = refl
+
+undo : exact_command (codes "{\"do\":\"undo\"}") ≡ Ok command.Undo
+unfolding is_utf8 chars serde_json_on_literals number_in height_in generator_row identity_row boundary_row slice_row equal_row drop_row row_of command_of
+undo = refl
+
+redo : exact_command (codes "{\"do\":\"redo\"}") ≡ Ok command.Redo
+unfolding is_utf8 chars serde_json_on_literals number_in height_in generator_row identity_row boundary_row slice_row equal_row drop_row row_of command_of
+redo = refl
+
+-- spaces, another order of keys, and a name that is empty
+as_json : exact_command (codes " {\"name\" : \"\", \"do\" : \"drop\"}") ≡ Ok (command.Drop [])
+unfolding is_utf8 chars serde_json_on_literals number_in height_in generator_row identity_row boundary_row slice_row equal_row drop_row row_of command_of
+as_json = refl
+
+-- ---- each fault
+
+no_json : exact_command (codes "{\"do\":\"stats\"") ≡ Err fault.NotJson
+unfolding is_utf8 chars serde_json_on_literals number_in height_in generator_row identity_row boundary_row slice_row equal_row drop_row row_of command_of
+no_json = refl
+
+no_object : exact_command (codes "[\"do\",\"stats\"]") ≡ Err (field_fault field.Command)
+unfolding is_utf8 chars serde_json_on_literals number_in height_in generator_row identity_row boundary_row slice_row equal_row drop_row row_of command_of
+no_object = refl
+
+no_do : exact_command (codes "{\"name\":\"x\"}") ≡ Err (field_fault field.Do)
+unfolding is_utf8 chars serde_json_on_literals number_in height_in generator_row identity_row boundary_row slice_row equal_row drop_row row_of command_of
+no_do = refl
+
+do_no_string : exact_command (codes "{\"do\":1}") ≡ Err (field_fault field.Do)
+unfolding is_utf8 chars serde_json_on_literals number_in height_in generator_row identity_row boundary_row slice_row equal_row drop_row row_of command_of
+do_no_string = refl
+
+-- the word comes before the keys
+no_word : exact_command (codes "{\"do\":\"Stats\",\"x\":1}") ≡ Err (field_fault field.Do)
+unfolding is_utf8 chars serde_json_on_literals number_in height_in generator_row identity_row boundary_row slice_row equal_row drop_row row_of command_of
+no_word = refl
+
+missing_key : exact_command (codes "{\"do\":\"identity\",\"name\":\"x\"}") ≡ Err (field_fault field.Command)
+unfolding is_utf8 chars serde_json_on_literals number_in height_in generator_row identity_row boundary_row slice_row equal_row drop_row row_of command_of
+missing_key = refl
+
+one_key_more : exact_command (codes "{\"do\":\"save\",\"name\":\"x\"}") ≡ Err (field_fault field.Command)
+unfolding is_utf8 chars serde_json_on_literals number_in height_in generator_row identity_row boundary_row slice_row equal_row drop_row row_of command_of
+one_key_more = refl
+
+-- the keys come before the fields
+one_end : exact_command (codes "{\"do\":\"generator\",\"name\":1,\"source\":\"x\"}") ≡ Err (field_fault field.Command)
+unfolding is_utf8 chars serde_json_on_literals number_in height_in generator_row identity_row boundary_row slice_row equal_row drop_row row_of command_of
+one_end = refl
+
+-- the fields come in the order of the row, and not in that of the line
+name_no_string : exact_command (codes "{\"do\":\"generator\",\"target\":1,\"source\":2,\"name\":3}") ≡ Err (field_fault field.Name)
+unfolding is_utf8 chars serde_json_on_literals number_in height_in generator_row identity_row boundary_row slice_row equal_row drop_row row_of command_of
+name_no_string = refl
+
+source_no_string : exact_command (codes "{\"do\":\"generator\",\"target\":1,\"source\":2,\"name\":\"f\"}") ≡ Err (field_fault field.Source)
+unfolding is_utf8 chars serde_json_on_literals number_in height_in generator_row identity_row boundary_row slice_row equal_row drop_row row_of command_of
+source_no_string = refl
+
+target_no_string : exact_command (codes "{\"do\":\"generator\",\"target\":1,\"source\":\"x\",\"name\":\"f\"}") ≡ Err (field_fault field.Target)
+unfolding is_utf8 chars serde_json_on_literals number_in height_in generator_row identity_row boundary_row slice_row equal_row drop_row row_of command_of
+target_no_string = refl
+
+of_no_string : exact_command (codes "{\"do\":\"slice\",\"of\":null,\"path\":\"s0\"}") ≡ Err (field_fault field.Of)
+unfolding is_utf8 chars serde_json_on_literals number_in height_in generator_row identity_row boundary_row slice_row equal_row drop_row row_of command_of
+of_no_string = refl
+
+other_side : exact_command (codes "{\"do\":\"boundary\",\"name\":\"b\",\"of\":\"f\",\"side\":\"Source\"}") ≡ Err (field_fault field.Side)
+unfolding is_utf8 chars serde_json_on_literals number_in height_in generator_row identity_row boundary_row slice_row equal_row drop_row row_of command_of
+other_side = refl
+
+path_no_list : exact_command (codes "{\"do\":\"slice\",\"of\":\"f\",\"path\":\"s0\"}") ≡ Err (field_fault field.Path)
+unfolding is_utf8 chars serde_json_on_literals number_in height_in generator_row identity_row boundary_row slice_row equal_row drop_row row_of command_of
+path_no_list = refl
+
+path_of_numbers : exact_command (codes "{\"do\":\"slice\",\"of\":\"f\",\"path\":[\"s0\",1]}") ≡ Err (field_fault field.Path)
+unfolding is_utf8 chars serde_json_on_literals number_in height_in generator_row identity_row boundary_row slice_row equal_row drop_row row_of command_of
+path_of_numbers = refl
+
+path_of_words : exact_command (codes "{\"do\":\"slice\",\"of\":\"f\",\"path\":[\"s0\",\".\"]}") ≡ Err (field_fault field.Path)
+unfolding is_utf8 chars serde_json_on_literals number_in height_in generator_row identity_row boundary_row slice_row equal_row drop_row row_of command_of
+path_of_words = refl
+
+one_no_string : exact_command (codes "{\"do\":\"equal\",\"one\":1,\"two\":2}") ≡ Err (field_fault field.One)
+unfolding is_utf8 chars serde_json_on_literals number_in height_in generator_row identity_row boundary_row slice_row equal_row drop_row row_of command_of
+one_no_string = refl
+
+two_no_string : exact_command (codes "{\"do\":\"equal\",\"one\":\"x\",\"two\":2}") ≡ Err (field_fault field.Two)
+unfolding is_utf8 chars serde_json_on_literals number_in height_in generator_row identity_row boundary_row slice_row equal_row drop_row row_of command_of
+two_no_string = refl

@@ -1,9 +1,0 @@
--- The parts of a JSON value, where they have another shape.
-use Rattle.std.proofs.Common.{◌≡◌, List, [], ◌∷◌, refl, ap}
-use Rattle.serde_json.specs.Data.{Data}
-use Rattle.serde_json.specs.View.{items_of}
-use Rattle.workspace_json.specs.Json.{items_list}
-
-pub items_list-items_of : (ds : List Data) → items_list (items_of ds) ≡ ds
-items_list-items_of [] = refl
-items_list-items_of (d ∷ ds) = ap (λ l. d ∷ l) (items_list-items_of ds)

@@ -1,0 +1,143 @@
+-- Which command a line is, or which form fault it has: the first failure in the order decides.
+use Rattle.std.specs.Prelude.{ℕ, List, [], ◌∷◌, codes, bytes_eq, if◌then◌else◌, Option, Some, None, is_some, option_and_then, Result, Ok, Err, ⊤}
+use Rattle.serde_json.specs.Data.{Data}
+use Rattle.serde_json.specs.Find.{as_str, as_object}
+use Rattle.diagram_terms.specs.declared.place.Height.{Height}
+use Rattle.diagram_terms.specs.declared.place.Side.{Side}
+use Rattle.diagram_terms.specs.declared.place.Side.TheVariants as side
+use Rattle.node_json.specs.declared.fault.Field.{Field}
+use Rattle.node_json.specs.declared.fault.Field.TheVariants as field
+use Rattle.node_json.specs.declared.fault.FormFault.{FormFault}
+use Rattle.node_json.specs.declared.fault.FormFault.TheVariants as fault
+use Rattle.node_json.specs.Step.{◌>>=◌, when, or_fault, each}
+use Rattle.node_json.specs.Json.{json_of, has_keys, text_at, list_at}
+use Rattle.node_json.specs.Reading.{field_fault}
+use Rattle.workspace_json.specs.declared.command.Command.{Command}
+use Rattle.workspace_json.specs.declared.command.Command.TheVariants as command
+use Rattle.workspace_json.specs.Paths.{height_in}
+use Rattle.workspace_json.specs.Replies.{word_of}
+
+-- ---- fields
+
+-- an object with exactly these keys
+abbrev pub keyed : List (List ℕ) → Data → Result ⊤ FormFault
+keyed keys d = when (has_keys keys d) (field_fault field.Command)
+
+-- the string of a field, at the key that is the field's word
+abbrev pub text_in : Field → Data → Result (List ℕ) FormFault
+text_in f d = text_at (field_fault f) (word_of f) d
+
+-- `source` or `target`
+abbrev pub side_of : List ℕ → Option Side
+side_of word =
+    if bytes_eq word (codes "source") then Some side.Source else (
+    if bytes_eq word (codes "target") then Some side.Target else None)
+
+-- the side of a boundary
+abbrev pub side_in : Data → Result Side FormFault
+side_in d = do
+  word ← text_in field.Side d
+  or_fault (field_fault field.Side) (side_of word)
+
+-- the heights that values are, if each is a string that is the text of one
+abbrev pub heights_of : List Data → Result (List Height) FormFault
+heights_of ds = each (λ done d. or_fault (field_fault field.Path) (option_and_then height_in (as_str d))) [] ds
+
+-- the path of a slice
+abbrev pub heights_at : Data → Result (List Height) FormFault
+heights_at d = list_at (field_fault field.Path) (word_of field.Path) d >>= heights_of
+
+-- ---- one command for each word
+
+-- `{"do":"generator","name":s}`
+abbrev pub point_row : Data → Result Command FormFault
+point_row d = do
+  name ← text_in field.Name d
+  Ok (command.Generator name None None)
+
+-- `{"do":"generator","name":s,"source":s,"target":s}`
+abbrev pub cell_row : Data → Result Command FormFault
+cell_row d = do
+  exact ← keyed (codes "do" ∷ codes "name" ∷ codes "source" ∷ codes "target" ∷ []) d
+  name ← text_in field.Name d
+  source ← text_in field.Source d
+  target ← text_in field.Target d
+  Ok (command.Generator name (Some source) (Some target))
+
+-- a generator without ends, or with both
+unfoldable pub generator_row : Data → Result Command FormFault
+generator_row d = if has_keys (codes "do" ∷ codes "name" ∷ []) d then point_row d else cell_row d
+
+-- `{"do":"identity","name":s,"of":s}`
+unfoldable pub identity_row : Data → Result Command FormFault
+identity_row d = do
+  exact ← keyed (codes "do" ∷ codes "name" ∷ codes "of" ∷ []) d
+  name ← text_in field.Name d
+  of ← text_in field.Of d
+  Ok (command.Identity name of)
+
+-- `{"do":"boundary","name":s,"of":s,"side":"source"}`, or with `"target"`
+unfoldable pub boundary_row : Data → Result Command FormFault
+boundary_row d = do
+  exact ← keyed (codes "do" ∷ codes "name" ∷ codes "of" ∷ codes "side" ∷ []) d
+  name ← text_in field.Name d
+  of ← text_in field.Of d
+  end ← side_in d
+  Ok (command.Boundary name of end)
+
+-- `{"do":"slice","of":s,"path":["s0",..]}`
+unfoldable pub slice_row : Data → Result Command FormFault
+slice_row d = do
+  exact ← keyed (codes "do" ∷ codes "of" ∷ codes "path" ∷ []) d
+  of ← text_in field.Of d
+  path ← heights_at d
+  Ok (command.Slice of path)
+
+-- `{"do":"equal","one":s,"two":s}`
+unfoldable pub equal_row : Data → Result Command FormFault
+equal_row d = do
+  exact ← keyed (codes "do" ∷ codes "one" ∷ codes "two" ∷ []) d
+  one ← text_in field.One d
+  two ← text_in field.Two d
+  Ok (command.Equal one two)
+
+-- `{"do":"drop","name":s}`
+unfoldable pub drop_row : Data → Result Command FormFault
+drop_row d = do
+  exact ← keyed (codes "do" ∷ codes "name" ∷ []) d
+  name ← text_in field.Name d
+  Ok (command.Drop name)
+
+-- a word alone: `{"do":"stats"}` and the like
+abbrev pub bare_row : Command → Data → Result Command FormFault
+bare_row c d = do
+  exact ← keyed (codes "do" ∷ []) d
+  Ok c
+
+-- ---- the command
+
+-- the command that an object with this word is
+unfoldable pub row_of : List ℕ → Data → Result Command FormFault
+row_of word d =
+    if bytes_eq word (codes "generator") then generator_row d else (
+    if bytes_eq word (codes "identity") then identity_row d else (
+    if bytes_eq word (codes "boundary") then boundary_row d else (
+    if bytes_eq word (codes "slice") then slice_row d else (
+    if bytes_eq word (codes "equal") then equal_row d else (
+    if bytes_eq word (codes "drop") then drop_row d else (
+    if bytes_eq word (codes "stats") then bare_row command.Stats d else (
+    if bytes_eq word (codes "save") then bare_row command.Save d else (
+    if bytes_eq word (codes "undo") then bare_row command.Undo d else (
+    if bytes_eq word (codes "redo") then bare_row command.Redo d else
+    Err (field_fault field.Do))))))))))
+
+-- the command that a value is: an object, then its word, then the keys and the fields of the word
+unfoldable pub command_of : Data → Result Command FormFault
+command_of d = do
+  object ← when (is_some (as_object d)) (field_fault field.Command)
+  word ← text_in field.Do d
+  row_of word d
+
+-- the command that a line is, with the fault of each line that is none
+abbrev pub exact_command : List ℕ → Result Command FormFault
+exact_command line = or_fault fault.NotJson (json_of line) >>= command_of

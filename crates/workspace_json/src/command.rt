@@ -1,0 +1,45 @@
+use diagram_terms::{Height, Items, Side, Text};
+
+/// One line of input to a session.
+#[derive(Debug, Drop)]
+pub enum Command {
+    /// A new generator: a point, or a cell between two diagrams, of which both are named.
+    Generator {
+        name: Text,
+        source: Option<Text>,
+        target: Option<Text>,
+    },
+    /// The identity of a diagram, under a name.
+    Identity {
+        name: Text,
+        of: Text,
+    },
+    /// An end of a diagram, under a name.
+    Boundary {
+        name: Text,
+        of: Text,
+        side: Side,
+    },
+    /// The slice of a diagram along a path.
+    Slice {
+        of: Text,
+        path: Items<Height>,
+    },
+    /// Whether two diagrams are the same.
+    Equal {
+        one: Text,
+        two: Text,
+    },
+    /// The name is free again.
+    Drop {
+        name: Text,
+    },
+    /// What the session holds, in numbers.
+    Stats,
+    /// The session as a document.
+    Save,
+    /// The last change is taken back.
+    Undo,
+    /// The last change that was taken back is made again.
+    Redo,
+}
