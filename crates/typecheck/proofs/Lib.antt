@@ -1,0 +1,9 @@
+pub mod Ends
+pub mod EntryLemmas
+pub mod FaultSteps
+pub mod Fields
+pub mod GoodSignatures
+pub mod OutcomeLemmas
+pub mod PointFaults
+pub mod PointVisits
+pub mod WellTypedness

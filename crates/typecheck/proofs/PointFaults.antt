@@ -1,0 +1,85 @@
+-- The faults of points in order, by the generators' dimensions; and where there is none.
+use Rattle.std.proofs.Common.{◌≡◌, ℕ, List, [], ◌∷◌, Bool, true, false, not, ◌&&◌, cond, ◌↔◌, All, Option, option_map, slice_get, None, Some, refl, sym, ap, ◌∙◌}
+use Rattle.std.proofs.lemmas.Bool.{cond-true, cond-false}
+use Rattle.std.proofs.lemmas.List.Elements.{All-nil, All-cons, All-head, All-tail}
+use Rattle.std.proofs.lemmas.Option.{none-some, slice_get-map}
+use Rattle.diagram_terms.specs.declared.label.Label.{Label}
+use Rattle.diagram_terms.specs.declared.place.Fault.{Fault}
+use Rattle.diagram_terms.specs.declared.place.Fault.TheVariants as fault
+use Rattle.diagram_terms.specs.Points.{Point}
+use Rattle.diagram_terms.specs.Typing.{Generator, generator_dim, has_dim, is_generator, has_type, point_fault, first_of, first_point_fault}
+use Rattle.typecheck.specs.Points.{HaveDims}
+use Rattle.typecheck.specs.Walk.{is_dim, is_known, first_failing, fault_over}
+
+-- ---- by the generators' dimensions
+
+is_dim-dim : (n : ℕ) (g : Option Generator) → is_dim n (option_map generator_dim g) ≡ has_dim n g
+is_dim-dim n None = refl
+is_dim-dim n (Some g) = refl
+
+-- the dimensions tell which labels are generators'
+pub known_generator : (generators : List Generator) (dims : List ℕ) → HaveDims generators dims → (x : Label) → is_known dims x ≡ is_generator generators x
+known_generator generators dims h x =
+    ap (λ (ds : List ℕ). is_dim x.dim (slice_get ds x.number)) (sym h)
+    ∙ ap (is_dim x.dim) (slice_get-map generator_dim generators x.number)
+    ∙ is_dim-dim x.dim (slice_get generators x.number)
+
+module _ (dims : List ℕ) (p : Point) (rest : Option Fault) (found : Option Point) (later : rest ≡ fault_over dims found) where
+  -- the fault at p, with what the two tests of it say
+  one_more : (k m : Bool) → is_known dims p.label ≡ k
+      → first_of (cond k (cond m None (Some (fault.TypeAt p.heights))) (Some (fault.LabelAt p.heights))) rest
+      ≡ fault_over dims (cond (not (k && m)) (Some p) found)
+  one_more true true e = later
+  one_more true false e = sym (cond-true (is_known dims p.label) (Some (fault.TypeAt p.heights)) (Some (fault.LabelAt p.heights)) e)
+  one_more false true e = sym (cond-false (is_known dims p.label) (Some (fault.TypeAt p.heights)) (Some (fault.LabelAt p.heights)) e)
+  one_more false false e = sym (cond-false (is_known dims p.label) (Some (fault.TypeAt p.heights)) (Some (fault.LabelAt p.heights)) e)
+
+-- the first point that fails tells the first fault
+pub first_fault_over : (generators : List Generator) (dims : List ℕ) → HaveDims generators dims → (n : ℕ) (ps : List Point)
+    → fault_over dims (first_failing dims n ps) ≡ first_point_fault generators n ps
+first_fault_over generators dims h n [] = refl
+first_fault_over generators dims h n (p ∷ ps) =
+    let known = known_generator generators dims h p.label in
+    ap (λ (k : Bool). fault_over dims (cond (not (k && has_type n p)) (Some p) (first_failing dims n ps))) known
+    ∙ sym (one_more dims p (first_point_fault generators n ps) (first_failing dims n ps) (sym (first_fault_over generators dims h n ps))
+    (is_generator generators p.label) (has_type n p) known)
+
+-- ---- no fault
+
+none_of_two : (a b : Option Fault) → (first_of a b ≡ None) ↔ ((a ≡ None) × (b ≡ None))
+none_of_two None b = (λ e. (refl, e), λ p. p.1)
+none_of_two (Some f) b = (λ e. absurd (none-some f (sym e)), λ p. p.0)
+
+-- a point has no fault where both tests pass
+no_fault_at : (k m : Bool) (f g : Fault) → (cond k (cond m None (Some f)) (Some g) ≡ None) ↔ ((k ≡ true) × (m ≡ true))
+no_fault_at true true f g = (λ e. (refl, refl), λ p. refl)
+no_fault_at true false f g = (λ e. absurd (none-some f (sym e)), λ p. absurd (let q = p.1 in cc))
+no_fault_at false m f g = (λ e. absurd (none-some g (sym e)), λ p. absurd (let q = p.0 in cc))
+
+module _ (generators : List Generator) (n : ℕ) where
+  abbrev pub IsKnownAt : Point → Type 0
+  IsKnownAt p = is_generator generators p.label ≡ true
+
+  abbrev pub IsTypedAt : Point → Type 0
+  IsTypedAt p = has_type n p ≡ true
+
+  none_to : (ps : List Point) → first_point_fault generators n ps ≡ None → All IsKnownAt ps × All IsTypedAt ps
+  none_to [] e = (All-nil IsKnownAt, All-nil IsTypedAt)
+  none_to (p ∷ ps) e =
+      let both = (none_of_two (point_fault generators n p) (first_point_fault generators n ps)).0 e in
+      let here = (no_fault_at (is_generator generators p.label) (has_type n p) (fault.TypeAt p.heights) (fault.LabelAt p.heights)).0 both.0 in
+      let rest = none_to ps both.1 in
+      (All-cons IsKnownAt p ps here.0 rest.0, All-cons IsTypedAt p ps here.1 rest.1)
+
+  none_from : (ps : List Point) → All IsKnownAt ps → All IsTypedAt ps → first_point_fault generators n ps ≡ None
+  none_from [] ks ts = refl
+  none_from (p ∷ ps) ks ts =
+      (none_of_two (point_fault generators n p) (first_point_fault generators n ps)).1 (
+        (no_fault_at (is_generator generators p.label) (has_type n p) (fault.TypeAt p.heights) (fault.LabelAt p.heights)).1
+            (All-head IsKnownAt p ps ks, All-head IsTypedAt p ps ts),
+        none_from ps (All-tail IsKnownAt p ps ks) (All-tail IsTypedAt p ps ts),
+      )
+
+  -- no point has a fault exactly when each passes both tests
+  pub no_point_fails : (ps : List Point) → (first_point_fault generators n ps ≡ None) ↔ (All IsKnownAt ps × All IsTypedAt ps)
+  no_point_fails ps = (none_to ps, λ all. none_from ps all.0 all.1)

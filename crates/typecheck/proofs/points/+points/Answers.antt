@@ -1,0 +1,62 @@
+use Rattle.std.proofs.Common.{option_map, sym, ap, ◌∙◌, rules, arith}
+use Rattle.hashcons.specs.Contents.{diagram_at}
+use Rattle.zigzag_maps.proofs.ValiditySteps.{reg_slice, sing_slice}
+use Rattle.typecheck.specs.Walk.{point_of}
+use Rattle.typecheck.proofs.PointVisits.{visit_start, visit_reg, visit_sing, visit_passes}
+use Rattle.typecheck.proofs.points.+points.Goals as goal
+
+-- ---- height by height
+
+pub failing_by_height-loop-i-init : goal.failing_by_height-loop-i-init
+failing_by_height-loop-i-init t c =
+    let u = diagram_at c.args.store.now c.args.d in
+    record {
+      passed = c.requires.passed;
+      rest = visit_start c.args.test.now.dims.now c.args.test.now.outer c.args.dim u (omega arith) c.requires.diagram.shape;
+    }
+
+pub failing_by_height-returns-in-Some-clause-exact : goal.failing_by_height-returns-in-Some-clause-exact
+failing_by_height-returns-in-Some-clause-exact t c =
+    let u = diagram_at c.args.store.now c.args.d in
+    visit_reg c.args.test.now.dims.now c.args.test.now.outer u c.loop-i.i (omega arith) (point_of c.in-Some.point)
+    (sym (ap (option_map point_of) c.in-Some.is) ∙ c.in_ok-point.ensures.exact)
+    ∙ c.loop-i.invariant.rest
+
+pub failing_by_height-returns-in-Some-2-clause-exact : goal.failing_by_height-returns-in-Some-2-clause-exact
+failing_by_height-returns-in-Some-2-clause-exact t c =
+    let u = diagram_at c.args.store.now c.args.d in
+    visit_sing c.args.test.now.dims.now c.args.test.now.outer u c.loop-i.i (omega arith)
+    (sym (ap (option_map point_of) c.in_default.is) ∙ c.in_ok-point.ensures.exact) (point_of c.in-Some-2.point)
+    (sym (ap (option_map point_of) c.in-Some-2.is) ∙ c.in_ok-point-2.ensures.exact)
+    ∙ c.loop-i.invariant.rest
+
+pub failing_by_height-loop-i-preserved : goal.failing_by_height-loop-i-preserved
+failing_by_height-loop-i-preserved t c =
+    let u = diagram_at c.args.store.now c.args.d in
+    record {
+      passed = c.in_ok-point-2.ensures.passed;
+      rest = visit_passes c.args.test.now.dims.now c.args.test.now.outer u c.loop-i.i (omega arith)
+          (sym (ap (option_map point_of) c.in_default.is) ∙ c.in_ok-point.ensures.exact)
+          (sym (ap (option_map point_of) c.in_default-2.is) ∙ c.in_ok-point-2.ensures.exact)
+          ∙ c.loop-i.invariant.rest;
+    }
+
+-- ---- slices
+
+pub failing_over_reg-failing_point-requires : goal.failing_over_reg-failing_point-requires
+failing_over_reg-failing_point-requires t c = (
+  search rules,
+  (
+    reg_slice c.args.store.now c.args.d c.reg-slice.result c.reg-slice.ensures.of_store c.args.dim c.args.j c.requires.above c.requires.diagram c.requires.within c.reg-slice.ensures.tree,
+    (c.requires.passed, c.requires.store),
+  ),
+)
+
+pub failing_over_sing-failing_point-requires : goal.failing_over_sing-failing_point-requires
+failing_over_sing-failing_point-requires t c = (
+  search rules,
+  (
+    sing_slice c.args.store.now c.args.d c.sing-slice.result c.sing-slice.ensures.of_store c.args.dim c.args.i c.requires.above c.requires.diagram c.requires.within c.sing-slice.ensures.tree,
+    (c.requires.passed, c.requires.store),
+  ),
+)

@@ -1,0 +1,20 @@
+use Rattle.std.proofs.Common.{List, Some, sym, ap, ◌∙◌}
+use Rattle.diagram_terms.specs.declared.place.Height.{Height}
+use Rattle.diagram_terms.proofs.Dimensions.{diagram_dimension}
+use Rattle.hashcons.specs.Contents.{diagram_at}
+use Rattle.typecheck.proofs.PointVisits.{label_passes, label_fails}
+use Rattle.typecheck.proofs.points.failing_label.Goals as goal
+
+pub label-label-requires-clause-zero : goal.label-label-requires-clause-zero
+label-label-requires-clause-zero c = diagram_dimension 0 (diagram_at c.args.store.now c.args.d) c.requires.shape
+
+pub returns-then-passes : goal.returns-then-passes
+returns-then-passes c =
+    label_passes c.args.test.now.dims.now c.args.test.now.outer (diagram_at c.args.store.now c.args.d) c.label-label.result c.requires.shape c.label-label.ensures
+    (sym c.passes.ensures ∙ c.if-passes.true)
+
+pub returns : goal.returns
+returns c =
+    ap (λ (hs : List Height). Some (record { heights = hs; label = c.label-label.result })) c.new.ensures
+    ∙ label_fails c.args.test.now.dims.now c.args.test.now.outer (diagram_at c.args.store.now c.args.d) c.label-label.result c.requires.shape c.label-label.ensures
+    (sym c.passes.ensures ∙ c.if-passes.false)

@@ -1,0 +1,6 @@
+pub mod Outcomes
+pub mod Passed
+pub mod Points
+pub mod Signatures
+pub mod Verdicts
+pub mod Walk
