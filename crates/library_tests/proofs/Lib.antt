@@ -1,0 +1,2 @@
+pub mod HeldIds
+pub mod PlaceLemmas
