@@ -1,3 +1,4 @@
 mod Looks
 mod Lines
 mod Runs
+mod SliceReplies

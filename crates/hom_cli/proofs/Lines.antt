@@ -6,7 +6,7 @@ use Rattle.std.proofs.lemmas.List.{at_drop_more, drop_all, drop_more}
 use Rattle.std.proofs.lemmas.List.Folds.{flat_map-map, list_all-map}
 use Rattle.std.specs.Io.KnownBytes.{Appends}
 use Rattle.diagram_terms.specs.declared.node.Node.{Node}
-use Rattle.workspace_json.specs.declared.document.DiagramEntry.{DiagramEntry}
+use Rattle.node_json.specs.declared.document.DiagramEntry.{DiagramEntry}
 use Rattle.workspace_json.specs.declared.reply.Reply.{Reply}
 use Rattle.workspace_json.specs.Replies.{text_of_reply}
 use Rattle.io_edge.specs.Transfers.{AppendsPrefix}

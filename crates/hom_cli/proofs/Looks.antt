@@ -22,9 +22,9 @@ use Rattle.hashcons.proofs.PickLemmas.{length-sings_point}
 use Rattle.hashcons.specs.Contents.{Contents, IsStore}
 use Rattle.hashcons.specs.Contents as store
 use Rattle.hashcons.specs.Ids.{GathersIds, IsOf, IsDiagramId, id_at, tree_of}
-use Rattle.workspace_json.specs.declared.document.DiagramEntry.{DiagramEntry}
-use Rattle.workspace_json.specs.declared.document.Document.{Document}
-use Rattle.workspace_json.specs.Documents.{IsDocument, IsDiagramPlace}
+use Rattle.node_json.specs.declared.document.DiagramEntry.{DiagramEntry}
+use Rattle.node_json.specs.declared.document.Document.{Document}
+use Rattle.node_json.specs.Documents.{IsDocument, IsDiagramPlace}
 use Rattle.workspace_json.specs.declared.reply.Reply.{Reply}
 use Rattle.workspace_json.specs.declared.reply.Reply.TheVariants.{Look}
 use Rattle.hom_cli.specs.Full.{looked_at, tree_reply, look_reply}
@@ -89,7 +89,7 @@ module _ (nodes : List Node) (form : AreNodes nodes) (old : Contents) (ids : Lis
   pub entry_of_store : store.IsDiagramOf old d
   entry_of_store = subst (IsOf old) named (of.of_store entry.root at.within)
 
-  entry_tree : store.diagram_at old d ≡ tree_at nodes entry.root
+  pub entry_tree : store.diagram_at old d ≡ tree_at nodes entry.root
   entry_tree = ap (tree_of old) (sym named) ∙ of.are entry.root at.within
 
   pub entry_dim : dimension_of (store.diagram_at old d) ≤ greatest_dim

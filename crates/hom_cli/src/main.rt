@@ -3,9 +3,14 @@
 
 ghost use Rattle.std.specs.Prelude.{◌≡◌, ◌⊎◌, IfErr};
 
+mod answer;
 mod look;
+mod nodes;
 mod program;
+mod slice;
 mod status;
+mod words;
+mod writing;
 
 use crate::program::run;
 use crate::status::Status;

@@ -1,23 +1,15 @@
-ghost use Rattle.std.specs.Prelude.{◌≡◌, ◌≢◌, ◌≤◌, ◌↔◌, false, List, ℕ, IfSome, map, string_bytes};
+ghost use Rattle.std.specs.Prelude.{◌≡◌, ◌≤◌, ◌↔◌, List, ℕ, IfSome, None, map, string_bytes};
 ghost use Rattle.io_edge.specs.Counts.{Rose};
-ghost use Rattle.hom_cli.specs.Full.{full, is_look, Writes, Reads};
+ghost use Rattle.hom_cli.specs.Full.{full, mode_of, Writes, Reads};
 
-use crate::look::look;
+use crate::answer::answer;
 use crate::status::Status;
+use crate::words::asked_of;
 use io_edge::{ReadAllFault, Sink, Source, read_all};
 use std::alloc::Global;
 
 /// The greatest length of an input, in bytes.
 const INPUT_LIMIT: usize = 67_108_864;
-
-fn are_look(words: &[String]) -> bool
-    ensures { result ≡ is_look (map string_bytes words.now) }
-{
-    match words {
-        [word] => word.as_str() == "look",
-        _ => false,
-    }
-}
 
 /// All that the program does on these words, but for the program's name, with this input and output.
 pub fn run<S: Source, K: Sink>(
@@ -33,7 +25,7 @@ pub fn run<S: Source, K: Sink>(
     ensures reads { Reads result (S.left input.old) (S.left input.new) }
 
     // Words of no form: nothing is read or written.
-    ensures usage { (result ≡ Status.Usage) ↔ (is_look (map string_bytes words.now) ≡ false) }
+    ensures usage { (result ≡ Status.Usage) ↔ (mode_of (map string_bytes words.now) ≡ None) }
     ensures untouched { result ≡ Status.Usage → (input.new ≡ input.old) × (output.new ≡ output.old) }
 
     // Reading and writing fail only by a fault in this call.
@@ -41,11 +33,11 @@ pub fn run<S: Source, K: Sink>(
     ensures write_fault { result ≡ Status.WriteFault → Rose (K.faults output.old) (K.faults output.new) }
     ensures later { (S.faults input.old ≤ S.faults input.new) × (K.faults output.old ≤ K.faults output.new) }
 {
-    if !are_look(words) {
+    let Some(asked) = asked_of(words) else {
         return Status::Usage;
-    }
+    };
     match read_all(alloc, input, INPUT_LIMIT) {
-        Ok(bytes) => look(alloc, &bytes, output),
+        Ok(bytes) => answer(alloc, asked, &bytes, output),
         Err(ReadAllFault::ReadFault) => Status::ReadFault,
         Err(ReadAllFault::TooLong) => Status::TooLong,
         Err(ReadAllFault::NoMemory) => Status::NoMemory,

@@ -2,6 +2,7 @@ use crate::program::run;
 use crate::status::Status;
 use io_edge::{MemSink, MemSource, SureSink, SureSource};
 use std::alloc::{AllocError, Global};
+use std::process::Abort;
 use std::test::Fail;
 
 const ONE_ARROW: &str =
@@ -17,83 +18,140 @@ fn words_of(alloc: Global, line: &str) -> Result<Vec<String>, AllocError> {
     Ok(words)
 }
 
-#[test]
-fn looks_at_documents(rt: HostRuntime) -> Result<(), Fail> {
+/// The words, the input, and the status and the text that are wanted.
+type Case = (&'static str, &'static str, Status, &'static str);
+
+const LOOKS: [Case; 15] = [
+    ("look", ONE_ARROW, Status::Done, ONE_ARROW_LINE),
+    (
+        "look",
+        "{\"diagrams\":[{\"name\":\"F\",\"root\"",
+        Status::Form,
+        "{\"refused\":\"NotJson\"}\n",
+    ),
+    (
+        "look",
+        "{\"diagrams\":[{\"name\":\"X\",\"root\":0}],\"format\":1,\"generators\":[],\"maps\":[],\"nodes\":[{\"label\":[0,0]}]}",
+        Status::Done,
+        "{\"dim\":0,\"length\":0,\"name\":\"X\",\"ok\":\"look\"}\n",
+    ),
+    (
+        "look",
+        "{\"diagrams\":[{\"name\":\"G\",\"root\":3}],\"format\":1,\"generators\":[],\"maps\":[],\"nodes\":[{\"label\":[0,0]},{\"label\":[1,1]},{\"labels\":[[1,1],[0,0]]},{\"bwds\":[2],\"fwds\":[2],\"regs\":[1,1],\"sings\":[0]}]}",
+        Status::Refused,
+        "{\"at\":\"f0 ends\",\"dim\":1,\"length\":1,\"name\":\"G\",\"no\":\"look\"}\n",
+    ),
+    (
+        "look",
+        "{\"diagrams\":[{\"name\":\"D\",\"root\":10}],\"format\":1,\"generators\":[],\"maps\":[],\"nodes\":[{\"label\":[0,0]},{\"label\":[1,1]},{\"label\":[2,2]},{\"labels\":[[0,0],[1,1]]},{\"bwds\":[3],\"fwds\":[3],\"regs\":[0,0],\"sings\":[1]},{\"labels\":[[0,0],[2,2]]},{\"bwds\":[5],\"fwds\":[5],\"regs\":[0,0],\"sings\":[2]},{\"labels\":[[0,0],[0,0]]},{\"labels\":[[2,2],[1,1]]},{\"heights\":[0],\"regs\":[7,7],\"sings\":[8]},{\"bwds\":[9],\"fwds\":[9],\"regs\":[6,6],\"sings\":[4]}]}",
+        Status::Refused,
+        "{\"at\":\"f0 s0 ends\",\"dim\":2,\"length\":1,\"name\":\"D\",\"no\":\"look\"}\n",
+    ),
+    (
+        "look",
+        "{\"diagrams\":[{\"name\":\"g\",\"root\":4},{\"name\":\"i\",\"root\":5},{\"name\":\"h\",\"root\":6}],\"format\":1,\"generators\":[],\"maps\":[],\"nodes\":[{\"label\":[0,0]},{\"label\":[1,1]},{\"labels\":[[0,0],[1,1]]},{\"labels\":[[0,0],[0,0]]},{\"bwds\":[2,3],\"fwds\":[2,2],\"regs\":[0,0,0],\"sings\":[1,1]},{\"bwds\":[],\"fwds\":[],\"regs\":[1],\"sings\":[]},{\"bwds\":[3],\"fwds\":[2],\"regs\":[0,0],\"sings\":[1]}]}",
+        Status::Refused,
+        "{\"at\":\"b1 ends\",\"dim\":1,\"length\":2,\"name\":\"g\",\"no\":\"look\"}\n{\"dim\":1,\"length\":0,\"name\":\"i\",\"ok\":\"look\"}\n{\"at\":\"b0 ends\",\"dim\":1,\"length\":1,\"name\":\"h\",\"no\":\"look\"}\n",
+    ),
+    (
+        "look",
+        "{\"diagrams\":[],\"format\":1,\"generators\":[],\"maps\":[],\"nodes\":[{\"bwds\":[],\"fwds\":[],\"regs\":[1],\"sings\":[]},{\"label\":[0,0]}]}",
+        Status::Form,
+        "{\"node\":0,\"refused\":\"Early\"}\n",
+    ),
+    (
+        "look",
+        "{\"diagrams\":[],\"format\":1,\"generators\":[],\"maps\":[],\"nodes\":[{\"label\":[0,7]}]}",
+        Status::Form,
+        "{\"node\":0,\"refused\":\"Label\"}\n",
+    ),
+    (
+        "look",
+        "{\"diagrams\":[],\"format\":1,\"generators\":[],\"maps\":[],\"nodes\":[{\"labels\":[[0,0],[0,0]]},{\"heights\":[1,0],\"regs\":[0,0,0],\"sings\":[0,0]}]}",
+        Status::Form,
+        "{\"node\":1,\"refused\":\"Shape\"}\n",
+    ),
+    (
+        "look",
+        "{\"diagrams\":[{\"name\":\"E\",\"root\":13}],\"format\":1,\"generators\":[],\"maps\":[],\"nodes\":[{\"label\":[0,0]},{\"label\":[1,1]},{\"labels\":[[0,0],[1,1]]},{\"bwds\":[2],\"fwds\":[2],\"regs\":[0,0],\"sings\":[1]},{\"bwds\":[2,2],\"fwds\":[2,2],\"regs\":[0,0,0],\"sings\":[1,1]},{\"labels\":[[0,0],[0,0]]},{\"labels\":[[1,1],[1,1]]},{\"heights\":[0],\"regs\":[5,5,5],\"sings\":[6]},{\"heights\":[1],\"regs\":[5,5,5],\"sings\":[6]},{\"bwds\":[8],\"fwds\":[7],\"regs\":[3,3],\"sings\":[4]},{\"bwds\":[],\"fwds\":[],\"regs\":[3],\"sings\":[]},{\"heights\":[0],\"regs\":[5,5],\"sings\":[6]},{\"heights\":[],\"regs\":[11,11],\"sings\":[]},{\"bwds\":[12],\"fwds\":[12],\"regs\":[10,10],\"sings\":[9]}]}",
+        Status::Refused,
+        "{\"at\":\"f0 q0\",\"dim\":3,\"length\":1,\"name\":\"E\",\"no\":\"look\"}\n",
+    ),
+    ("", ONE_ARROW, Status::Usage, ""),
+    ("demo 0", ONE_ARROW, Status::Usage, ""),
+    ("slice T s01", ONE_ARROW, Status::Usage, ""),
+    ("look look", ONE_ARROW, Status::Usage, ""),
+    ("Look", ONE_ARROW, Status::Usage, ""),
+];
+
+/// Runs on each case.
+fn check_runs(rt: &(impl Abort + AllocGlobal), cases: &[Case]) -> Result<(), Fail> {
     let alloc = rt.alloc();
-    let cases = [
-        ("look", ONE_ARROW, Status::Done, ONE_ARROW_LINE),
-        (
-            "look",
-            "{\"diagrams\":[{\"name\":\"F\",\"root\"",
-            Status::Form,
-            "{\"refused\":\"NotJson\"}\n",
-        ),
-        (
-            "look",
-            "{\"diagrams\":[{\"name\":\"X\",\"root\":0}],\"format\":1,\"generators\":[],\"maps\":[],\"nodes\":[{\"label\":[0,0]}]}",
-            Status::Done,
-            "{\"dim\":0,\"length\":0,\"name\":\"X\",\"ok\":\"look\"}\n",
-        ),
-        (
-            "look",
-            "{\"diagrams\":[{\"name\":\"G\",\"root\":3}],\"format\":1,\"generators\":[],\"maps\":[],\"nodes\":[{\"label\":[0,0]},{\"label\":[1,1]},{\"labels\":[[1,1],[0,0]]},{\"bwds\":[2],\"fwds\":[2],\"regs\":[1,1],\"sings\":[0]}]}",
-            Status::Refused,
-            "{\"at\":\"f0 ends\",\"dim\":1,\"length\":1,\"name\":\"G\",\"no\":\"look\"}\n",
-        ),
-        (
-            "look",
-            "{\"diagrams\":[{\"name\":\"D\",\"root\":10}],\"format\":1,\"generators\":[],\"maps\":[],\"nodes\":[{\"label\":[0,0]},{\"label\":[1,1]},{\"label\":[2,2]},{\"labels\":[[0,0],[1,1]]},{\"bwds\":[3],\"fwds\":[3],\"regs\":[0,0],\"sings\":[1]},{\"labels\":[[0,0],[2,2]]},{\"bwds\":[5],\"fwds\":[5],\"regs\":[0,0],\"sings\":[2]},{\"labels\":[[0,0],[0,0]]},{\"labels\":[[2,2],[1,1]]},{\"heights\":[0],\"regs\":[7,7],\"sings\":[8]},{\"bwds\":[9],\"fwds\":[9],\"regs\":[6,6],\"sings\":[4]}]}",
-            Status::Refused,
-            "{\"at\":\"f0 s0 ends\",\"dim\":2,\"length\":1,\"name\":\"D\",\"no\":\"look\"}\n",
-        ),
-        (
-            "look",
-            "{\"diagrams\":[{\"name\":\"g\",\"root\":4},{\"name\":\"i\",\"root\":5},{\"name\":\"h\",\"root\":6}],\"format\":1,\"generators\":[],\"maps\":[],\"nodes\":[{\"label\":[0,0]},{\"label\":[1,1]},{\"labels\":[[0,0],[1,1]]},{\"labels\":[[0,0],[0,0]]},{\"bwds\":[2,3],\"fwds\":[2,2],\"regs\":[0,0,0],\"sings\":[1,1]},{\"bwds\":[],\"fwds\":[],\"regs\":[1],\"sings\":[]},{\"bwds\":[3],\"fwds\":[2],\"regs\":[0,0],\"sings\":[1]}]}",
-            Status::Refused,
-            "{\"at\":\"b1 ends\",\"dim\":1,\"length\":2,\"name\":\"g\",\"no\":\"look\"}\n{\"dim\":1,\"length\":0,\"name\":\"i\",\"ok\":\"look\"}\n{\"at\":\"b0 ends\",\"dim\":1,\"length\":1,\"name\":\"h\",\"no\":\"look\"}\n",
-        ),
-        (
-            "look",
-            "{\"diagrams\":[],\"format\":1,\"generators\":[],\"maps\":[],\"nodes\":[{\"bwds\":[],\"fwds\":[],\"regs\":[1],\"sings\":[]},{\"label\":[0,0]}]}",
-            Status::Form,
-            "{\"node\":0,\"refused\":\"Early\"}\n",
-        ),
-        (
-            "look",
-            "{\"diagrams\":[],\"format\":1,\"generators\":[],\"maps\":[],\"nodes\":[{\"label\":[0,7]}]}",
-            Status::Form,
-            "{\"node\":0,\"refused\":\"Label\"}\n",
-        ),
-        (
-            "look",
-            "{\"diagrams\":[],\"format\":1,\"generators\":[],\"maps\":[],\"nodes\":[{\"labels\":[[0,0],[0,0]]},{\"heights\":[1,0],\"regs\":[0,0,0],\"sings\":[0,0]}]}",
-            Status::Form,
-            "{\"node\":1,\"refused\":\"Shape\"}\n",
-        ),
-        (
-            "look",
-            "{\"diagrams\":[{\"name\":\"E\",\"root\":13}],\"format\":1,\"generators\":[],\"maps\":[],\"nodes\":[{\"label\":[0,0]},{\"label\":[1,1]},{\"labels\":[[0,0],[1,1]]},{\"bwds\":[2],\"fwds\":[2],\"regs\":[0,0],\"sings\":[1]},{\"bwds\":[2,2],\"fwds\":[2,2],\"regs\":[0,0,0],\"sings\":[1,1]},{\"labels\":[[0,0],[0,0]]},{\"labels\":[[1,1],[1,1]]},{\"heights\":[0],\"regs\":[5,5,5],\"sings\":[6]},{\"heights\":[1],\"regs\":[5,5,5],\"sings\":[6]},{\"bwds\":[8],\"fwds\":[7],\"regs\":[3,3],\"sings\":[4]},{\"bwds\":[],\"fwds\":[],\"regs\":[3],\"sings\":[]},{\"heights\":[0],\"regs\":[5,5],\"sings\":[6]},{\"heights\":[],\"regs\":[11,11],\"sings\":[]},{\"bwds\":[12],\"fwds\":[12],\"regs\":[10,10],\"sings\":[9]}]}",
-            Status::Refused,
-            "{\"at\":\"f0 q0\",\"dim\":3,\"length\":1,\"name\":\"E\",\"no\":\"look\"}\n",
-        ),
-        ("", ONE_ARROW, Status::Usage, ""),
-        ("demo 0", ONE_ARROW, Status::Usage, ""),
-        ("slice T s01", ONE_ARROW, Status::Usage, ""),
-        ("look look", ONE_ARROW, Status::Usage, ""),
-        ("Look", ONE_ARROW, Status::Usage, ""),
-    ];
     for (line, text, status, want) in cases {
         let words = words_of(alloc, line)?;
         let mut input = SureSource::new(Vec::from_slice(alloc, text.as_bytes())?);
         let mut output = SureSink::new(alloc);
         assert_eq!(rt;
             run(alloc, words.as_slice(), &mut input, &mut output),
-            status,
+            *status,
             "{line} {text}"
         );
         assert!(rt; output.written() == want.as_bytes(), "{line} {text}");
     }
     Ok(())
+}
+
+#[test]
+fn looks_at_documents(rt: HostRuntime) -> Result<(), Fail> {
+    check_runs(&rt, &LOOKS)
+}
+
+const TWO_HEIGHTS: &str =
+    "{\"diagrams\":[{\"name\":\"T\",\"root\":4}],\"format\":1,\"generators\":[{\"name\":\"x\"},{\"name\":\"f\",\"source\":0,\"target\":0}],\"maps\":[{\"arrow\":6,\"name\":\"L\",\"source\":5,\"target\":4}],\"nodes\":[{\"label\":[0,0]},{\"label\":[1,1]},{\"labels\":[[0,0],[0,0]]},{\"labels\":[[0,0],[1,1]]},{\"bwds\":[2,3],\"fwds\":[2,3],\"regs\":[0,0,0],\"sings\":[0,1]},{\"bwds\":[2],\"fwds\":[2],\"regs\":[0,0],\"sings\":[0]},{\"heights\":[0],\"regs\":[2,2,2],\"sings\":[2]}]}";
+
+const ALL_OF_IT: &str =
+    "{\"nodes\":[{\"label\":[0,0]},{\"label\":[1,1]},{\"labels\":[[0,0],[0,0]]},{\"labels\":[[0,0],[1,1]]},{\"bwds\":[2,3],\"fwds\":[2,3],\"regs\":[0,0,0],\"sings\":[0,1]}],\"ok\":\"slice\",\"root\":4}\n";
+
+const SLICES: [Case; 9] = [
+    (
+        "slice T s1",
+        TWO_HEIGHTS,
+        Status::Done,
+        "{\"nodes\":[{\"label\":[1,1]}],\"ok\":\"slice\",\"root\":0}\n",
+    ),
+    ("slice T .", TWO_HEIGHTS, Status::Done, ALL_OF_IT),
+    (
+        "slice T s2",
+        TWO_HEIGHTS,
+        Status::Refused,
+        "{\"refused\":\"NoHeight\",\"step\":0}\n",
+    ),
+    (
+        "slice T r2,r0",
+        TWO_HEIGHTS,
+        Status::Refused,
+        "{\"refused\":\"NoHeight\",\"step\":1}\n",
+    ),
+    (
+        "slice U .",
+        TWO_HEIGHTS,
+        Status::Refused,
+        "{\"name\":\"U\",\"refused\":\"Unknown\"}\n",
+    ),
+    (
+        "slice L .",
+        TWO_HEIGHTS,
+        Status::Refused,
+        "{\"name\":\"L\",\"refused\":\"Unknown\"}\n",
+    ),
+    ("slice T s01", TWO_HEIGHTS, Status::Usage, ""),
+    ("slice T", TWO_HEIGHTS, Status::Usage, ""),
+    ("slice T s4294967296", TWO_HEIGHTS, Status::Usage, ""),
+];
+
+#[test]
+fn slices_diagrams(rt: HostRuntime) -> Result<(), Fail> {
+    check_runs(&rt, &SLICES)
 }
 
 /// A source that gives 7 bytes a call and fails at `read_fails`, and a sink that takes 16 bytes a

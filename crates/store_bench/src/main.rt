@@ -4,16 +4,16 @@
 
 ghost use Rattle.std.specs.Prelude.{IfOk};
 ghost use Rattle.diagram_terms.specs.Nodes.{AreNodes};
-ghost use Rattle.workspace_json.specs.Documents.{IsDocument};
+ghost use Rattle.node_json.specs.Documents.{IsDocument};
 
 use anyhow::{Result, anyhow, bail};
 use hashcons::Store;
 use io_edge::{StdSource, read_all};
+use node_json::{Document, read_document};
 use std::alloc::Global;
 use std::env;
 use std::rt::Runtime;
 use std::time::Instant;
-use workspace_json::{Document, read_document};
 
 /// The greatest length of an input, in bytes.
 const INPUT_LIMIT: usize = 67_108_864;

@@ -3,7 +3,7 @@ use Rattle.diagram_terms.specs.declared.node.Node.{Node}
 use Rattle.diagram_terms.specs.Nodes.{tree_at}
 use Rattle.hashcons.specs.Ids.{GathersIds}
 use Rattle.hashcons.proofs.FillLemmas.{ids-grow}
-use Rattle.workspace_json.specs.declared.document.DiagramEntry.{DiagramEntry}
+use Rattle.node_json.specs.declared.document.DiagramEntry.{DiagramEntry}
 use Rattle.io_edge.proofs.Parts.{begun, ended, cut_off, stopped, one_more}
 use Rattle.hom_cli.specs.declared.status.Status.TheVariants as status
 use Rattle.hom_cli.specs.Full.{look_reply}
