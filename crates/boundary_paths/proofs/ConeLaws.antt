@@ -22,7 +22,7 @@ use Rattle.plain_maps.specs.Plainness.{IsPlainTree, IsPlainDiagramTree}
 use Rattle.zigzag_maps.specs.Trees.{IsValidTreeAt, IsValidTree, IsArrowBetween}
 use Rattle.zigzag_maps.proofs.KeepLemmas.{valid_diagram-grows, between_same}
 use Rattle.boundary_paths.specs.Keeps.{IsConeOf}
-use Rattle.boundary_paths.specs.Trees.{cone_tree, mid_tree, type_tree, HasLabelsBelowTree}
+use Rattle.diagram_terms.specs.ConeTrees.{cone_tree, mid_tree, type_tree, HasLabelsBelowTree}
 use Rattle.boundary_paths.proofs.ConeLemmas.{cone_tree_at, mid_tree_at, type_tree_at, cone_shape, mid_shape, type_shape, source_is, target_is}
 
 -- ---- a tree at the dimension of its shape

@@ -20,7 +20,7 @@ use Rattle.diagram_terms.proofs.Shapes.{IsDiagram-point, IsDiagram-zig, IsArrow-
 use Rattle.zigzag_maps.specs.Trees.{identity_tree}
 use Rattle.zigzag_maps.proofs.IdentityLemmas.{identity_tree_at, identity_shape, slices_tab}
 use Rattle.hashcons.specs.Contents.{Contents, IsStore, IsDiagramOf, diagram_at}
-use Rattle.boundary_paths.specs.Trees.{identity_diagram_tree, cone_tree, mid_tree, type_tree}
+use Rattle.diagram_terms.specs.ConeTrees.{identity_diagram_tree, cone_tree, mid_tree, type_tree}
 
 -- ---- the parts of a cone
 

@@ -18,7 +18,7 @@ use Rattle.zigzag_maps.specs.Trees.{identity_tree}
 use Rattle.zigzag_maps.proofs.KeepLemmas.{identity-grows}
 use Rattle.boundary_paths.specs.declared.kept.Kept.{Kept}
 use Rattle.boundary_paths.specs.Keeps.{IsConeOf, HasIdentities, AreRight}
-use Rattle.boundary_paths.specs.Trees.{cone_tree, mid_tree, type_tree}
+use Rattle.diagram_terms.specs.ConeTrees.{cone_tree, mid_tree, type_tree}
 use Rattle.boundary_paths.proofs.ConeLemmas.{cone_tree-point, mid_tree-point, cone_tree-above, mid_tree-above, type_tree-is, type_shape}
 
 -- ---- a store that grew

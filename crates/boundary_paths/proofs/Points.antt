@@ -15,7 +15,7 @@ use Rattle.hashcons.specs.Contents.{Contents, IsDiagramOf, diagram_at}
 use Rattle.zigzag_maps.specs.Found.{IsValidDiagram}
 use Rattle.plain_maps.specs.Plainness.{IsPlainDiagramTree}
 use Rattle.zigzag_maps.specs.Trees.{IsValidTree}
-use Rattle.boundary_paths.specs.Trees.{HasLabelsBelowTree}
+use Rattle.diagram_terms.specs.ConeTrees.{HasLabelsBelowTree}
 
 valid-point : (x : Label) → IsValidTree (point x)
 valid-point x = record { dim = zero; at_dim = record { shape = IsDiagram-point x; valid = tt } }

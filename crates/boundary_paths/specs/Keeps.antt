@@ -6,7 +6,7 @@ use Rattle.hashcons.specs.Contents.{Contents, IsDiagramOf, IsArrowOf, diagram_at
 use Rattle.zigzag_maps.specs.declared.map.Map.{Map}
 use Rattle.zigzag_maps.specs.Found.{IsIdentityOf}
 use Rattle.boundary_paths.specs.declared.kept.Kept.{Kept}
-use Rattle.boundary_paths.specs.Trees.{cone_tree, mid_tree}
+use Rattle.diagram_terms.specs.ConeTrees.{cone_tree, mid_tree}
 
 -- m is the cone over d with the label x
 pub record IsConeOf (c : Contents) (x : Label) (d : ℕ) (m : Map) : Type 0 where

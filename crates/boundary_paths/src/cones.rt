@@ -11,7 +11,7 @@ ghost use Rattle.zigzag_maps.specs.Found.{IsValidDiagram, IsValidMap};
 ghost use Rattle.plain_maps.specs.Plainness.{IsPlainTree, IsPlainDiagramTree};
 ghost use Rattle.zigzag_maps.specs.Trees.{identity_tree};
 ghost use Rattle.boundary_paths.specs.Keeps.{IsConeOf, HasIdentities, AreRight};
-ghost use Rattle.boundary_paths.specs.Trees.{cone_tree, mid_tree, type_tree, HasLabelsBelowTree};
+ghost use Rattle.diagram_terms.specs.ConeTrees.{cone_tree, mid_tree, type_tree, HasLabelsBelowTree};
 
 use crate::kept::Kept;
 use crate::slices::{source, target};

@@ -1,6 +1,6 @@
 ghost use Rattle.std.specs.Prelude.{◌≡◌, IfOk};
 ghost use Rattle.hashcons.specs.Contents.{IsDiagramOf, Grows, IsStore, diagram_at};
-ghost use Rattle.boundary_paths.specs.Trees.{identity_diagram_tree};
+ghost use Rattle.diagram_terms.specs.ConeTrees.{identity_diagram_tree};
 
 use hashcons::{AnyId, DiagramId, DiagramNode, Store};
 use smallvec::SmallVec;

@@ -5,10 +5,11 @@ pub mod Tree
 pub mod Decoded
 pub mod Shape
 pub mod Dimension
-pub mod Slices
 pub mod Completion
+pub mod Slices
 pub mod Composite
 pub mod Cone
+pub mod ConeTrees
 pub mod Composable
 pub mod Edges
 pub mod Identity
@@ -16,6 +17,7 @@ pub mod Plain
 pub mod Loose
 pub mod Points
 pub mod Typing
+pub mod GeneratorTypes
 pub mod Valid
 pub mod Places
 pub mod Levels

@@ -1,7 +1,8 @@
 -- The slices of a diagram, by the heights that lead to them.
-use Rattle.std.specs.Prelude.{◌≡◌, ℕ, suc, ◌<◌, List, [], ◌∷◌, length, ◌==◌, if◌then◌else◌, Option, Some, None, Result, Ok, Err, slice_get}
+use Rattle.std.specs.Prelude.{◌≡◌, ℕ, suc, ◌<◌, List, [], ◌∷◌, length, Bool, ◌||◌, ◌&&◌, ◌==◌, if◌then◌else◌, Option, Some, None, Result, Ok, Err, slice_get}
 use Rattle.diagram_terms.specs.declared.place.Height.{Height}
 use Rattle.diagram_terms.specs.declared.place.Height.TheVariants as height
+use Rattle.diagram_terms.specs.Completion.{same_tree}
 use Rattle.diagram_terms.specs.Tree.{Tree, kind, regs, sings}
 use Rattle.diagram_terms.specs.Shape.{reg_at}
 use Rattle.diagram_terms.specs.Dimension.{dimension_of}
@@ -36,3 +37,7 @@ pub record AreParallel (s t : Tree) : Type 0 where
   pub dims : dimension_of s ≡ dimension_of t
   pub sources : 0 < dimension_of s → source_tree s ≡ source_tree t
   pub targets : 0 < dimension_of s → target_tree s ≡ target_tree t
+
+-- above dimension 0 the two trees have one source and one target
+abbrev pub have_one_boundary : Tree → Tree → Bool
+have_one_boundary s t = (dimension_of s == 0) || (same_tree (source_tree s) (source_tree t) && same_tree (target_tree s) (target_tree t))

@@ -60,6 +60,13 @@ first_fault generators n X =
     first_of (option_map (λ p. fault.SquareAt p) (first_bad_place n X))
     (first_of (option_map (λ steps. fault.LooseAt steps) (first_loose_leg n X)) (first_point_fault generators n (points n X)))
 
+-- the same of a tree
+abbrev pub first_point_fault_in : List Generator → Tree → Option Fault
+first_point_fault_in generators t = first_point_fault generators (dimension_of t) (points (dimension_of t) (dia (dimension_of t) t))
+
+abbrev pub first_fault_in : List Generator → Tree → Option Fault
+first_fault_in generators t = first_fault generators (dimension_of t) (dia (dimension_of t) t)
+
 -- an n-diagram is well typed: it is valid and plain, and at each point stands a generator of whose type it is there
 pub record WellTyped (generators : List Generator) (n : ℕ) (X : Dia n) : Type 0 where
   pub valid : Valid n X

@@ -1,4 +1,6 @@
 mod Looks
 mod Lines
+mod Replays
 mod Runs
 mod SliceReplies
+mod Takings

@@ -1,91 +1,86 @@
--- The lines of a document, written one after the other, and the status that they make.
-use Rattle.std.proofs.Common.{◌≡◌, ℕ, ◌+◌, ◌<◌, ◌≤◌, List, [], ◌∷◌, ◌++◌, length, get_or, drop, map, Bool, true, false, cond, ◌&&◌, Option, Result, Ok, Err, OnErr, refl, sym, ap, ◌∙◌, subst, arith}
+-- Answers, whose lines are written one after the other, and the status that they make.
+use Rattle.std.proofs.Common.{◌≡◌, ℕ, ◌+◌, ◌<◌, ◌≤◌, List, [], ◌∷◌, ◌++◌, length, get_or, drop, map, Bool, true, false, ◌&&◌, Option, Result, Ok, Err, OnErr, refl, sym, ap, ◌∙◌, subst, append-nil}
 use Rattle.std.specs.Prelude.{if◌then◌else◌}
 use Rattle.std.specs.List.{flat_map, list_all}
-use Rattle.std.proofs.lemmas.List.{at_drop_more, drop_all, drop_more}
-use Rattle.std.proofs.lemmas.List.Folds.{flat_map-map, list_all-map}
-use Rattle.std.specs.Io.KnownBytes.{Appends}
+use Rattle.std.proofs.lemmas.Grind.{flat_map-append}
+use Rattle.std.proofs.lemmas.List.{at_drop_more, at_drop_all}
+use Rattle.std.proofs.lemmas.List.Folds.{list_all-append}
 use Rattle.diagram_terms.specs.declared.node.Node.{Node}
 use Rattle.node_json.specs.declared.document.DiagramEntry.{DiagramEntry}
 use Rattle.workspace_json.specs.declared.reply.Reply.{Reply}
 use Rattle.workspace_json.specs.Replies.{text_of_reply}
-use Rattle.io_edge.specs.Transfers.{AppendsPrefix}
 use Rattle.io_edge.proofs.Parts.{IsUnderWay}
 use Rattle.hom_cli.specs.declared.status.Status.{Status}
 use Rattle.hom_cli.specs.declared.status.Status.TheVariants as status
-use Rattle.hom_cli.specs.Full.{line, look_reply, replying, is_yes}
+use Rattle.hom_cli.specs.Full.{Answer, answer_line, is_good_answer, is_yes, line, look_reply, replied}
 
--- the line of an entry, and whether it is a yes
-abbrev pub entry_line : List Node → DiagramEntry → List ℕ
-entry_line nodes entry = line (text_of_reply (look_reply nodes entry))
+abbrev pub answers_text : List Answer → List ℕ
+answers_text answers = flat_map answer_line answers
 
-abbrev pub entry_yes : List Node → DiagramEntry → Bool
-entry_yes nodes entry = is_yes (look_reply nodes entry)
+-- what answers make of a status
+abbrev pub answers_status : Status → List Answer → Status
+answers_status s answers = if list_all is_good_answer answers then s else status.Refused
 
--- the text of entries, and the status that they make of one
-abbrev pub entries_text : List Node → List DiagramEntry → List ℕ
-entries_text nodes entries = flat_map (entry_line nodes) entries
+-- ---- some answers, and then more
 
-abbrev pub entries_status : List Node → Status → List DiagramEntry → Status
-entries_status nodes s entries = if list_all (entry_yes nodes) entries then s else status.Refused
+module _ (left here more : List Answer) (split : left ≡ here ++ more) where
+  pub next_lines : (old now : Option (List ℕ)) (text whole : List ℕ) → text ≡ answers_text here
+      → IsUnderWay old now (answers_text left) whole → IsUnderWay old now (text ++ answers_text more) whole
+  next_lines old now text whole is so_far =
+      subst (λ (l : List ℕ). IsUnderWay old now l whole)
+      (ap answers_text split ∙ flat_map-append answer_line here more ∙ ap (λ (l : List ℕ). l ++ answers_text more) (sym is)) so_far
 
-pub text_is : (nodes : List Node) (entries : List DiagramEntry) → (replying (map (look_reply nodes) entries)).text ≡ entries_text nodes entries
-text_is nodes entries = flat_map-map (λ (r : Reply). line (text_of_reply r)) (look_reply nodes) entries
-
-pub status_is : (nodes : List Node) (entries : List DiagramEntry) → (replying (map (look_reply nodes) entries)).status ≡ entries_status nodes status.Done entries
-status_is nodes entries = ap (λ (b : Bool). if b then status.Done else status.Refused) (list_all-map is_yes (look_reply nodes) entries)
-
--- ---- one more entry
-
-module _ (nodes : List Node) (entries : List DiagramEntry) (i : ℕ) (entry : DiagramEntry) (within : i < length entries) (is : entry ≡ get_or entries i entry) where
-  pub next_line : (old now : Option (List ℕ)) (text : List ℕ) (reply : Reply) → text ≡ text_of_reply reply → reply ≡ look_reply nodes entry
-      → IsUnderWay old now (entries_text nodes (drop i entries)) (entries_text nodes entries)
-      → IsUnderWay old now (line text ++ entries_text nodes (drop (i + 1) entries)) (entries_text nodes entries)
-  next_line old now text reply e f so_far =
-      let split : entries_text nodes (drop i entries) ≡ entry_line nodes (get_or entries i entry) ++ entries_text nodes (drop (i + 1) entries) =
-      at_drop_more (entries_text nodes) entries i entry within in
-      let same : entry_line nodes (get_or entries i entry) ≡ line text =
-      ap (entry_line nodes) (sym is) ∙ ap (λ (r : Reply). line (text_of_reply r)) (sym f) ∙ ap line (sym e) in
-      subst (λ (l : List ℕ). IsUnderWay old now l (entries_text nodes entries)) (split ∙ ap (λ (l : List ℕ). l ++ entries_text nodes (drop (i + 1) entries)) same) so_far
-
-  next_status : (s s' whole : Status) (b more : Bool) → (b ≡ true → s' ≡ s) → (b ≡ false → s' ≡ status.Refused)
-      → (if b && more then s else status.Refused) ≡ whole → (if more then s' else status.Refused) ≡ whole
+  next_status : (s s' whole : Status) (b c : Bool) → (b ≡ true → s' ≡ s) → (b ≡ false → s' ≡ status.Refused)
+      → (if b && c then s else status.Refused) ≡ whole → (if c then s' else status.Refused) ≡ whole
   next_status s s' whole true true stays turns h = stays refl ∙ h
   next_status s s' whole true false stays turns h = h
   next_status s s' whole false true stays turns h = turns refl ∙ h
   next_status s s' whole false false stays turns h = h
 
-  pub more_status : (s s' whole : Status) (reply : Reply) → reply ≡ look_reply nodes entry → (is_yes reply ≡ true → s' ≡ s) → (is_yes reply ≡ false → s' ≡ status.Refused)
-      → entries_status nodes s (drop i entries) ≡ whole → entries_status nodes s' (drop (i + 1) entries) ≡ whole
-  more_status s s' whole reply f stays turns h =
-      let split : list_all (entry_yes nodes) (drop i entries) ≡ (entry_yes nodes (get_or entries i entry) && list_all (entry_yes nodes) (drop (i + 1) entries)) =
-      at_drop_more (list_all (entry_yes nodes)) entries i entry within in
-      let same : entry_yes nodes (get_or entries i entry) ≡ is_yes reply = ap (entry_yes nodes) (sym is) ∙ ap is_yes (sym f) in
-      let both : list_all (entry_yes nodes) (drop i entries) ≡ (is_yes reply && list_all (entry_yes nodes) (drop (i + 1) entries)) =
-      split ∙ ap (λ (b : Bool). b && list_all (entry_yes nodes) (drop (i + 1) entries)) same in
-      next_status s s' whole (is_yes reply) (list_all (entry_yes nodes) (drop (i + 1) entries)) stays turns
+  pub more_status : (s s' whole : Status) (good : Bool) → good ≡ list_all is_good_answer here → (good ≡ true → s' ≡ s) → (good ≡ false → s' ≡ status.Refused)
+      → answers_status s left ≡ whole → answers_status s' more ≡ whole
+  more_status s s' whole good is stays turns h =
+      let both : list_all is_good_answer left ≡ (good && list_all is_good_answer more) =
+      ap (list_all is_good_answer) split ∙ list_all-append is_good_answer here more ∙ ap (λ (b : Bool). b && list_all is_good_answer more) (sym is) in
+      next_status s s' whole good (list_all is_good_answer more) stays turns
       (ap (λ (b : Bool). if b then s else status.Refused) (sym both) ∙ h)
 
--- no entry is left
-pub none_left : (nodes : List Node) (entries : List DiagramEntry) (i : ℕ) (s whole : Status) → length entries ≤ i → entries_status nodes s (drop i entries) ≡ whole → s ≡ whole
-none_left nodes entries i s whole l h = ap (entries_status nodes s) (sym (drop_all i entries l)) ∙ h
+-- the line of one reply
+pub reply_line : (text : List ℕ) (reply : Reply) → text ≡ text_of_reply reply → line text ≡ answers_text (replied reply ∷ [])
+reply_line text reply e = ap line e ∙ sym (append-nil (line (text_of_reply reply)))
 
-pub all_written : (nodes : List Node) (entries : List DiagramEntry) (i : ℕ) (old now : Option (List ℕ)) → length entries ≤ i
-    → IsUnderWay old now (entries_text nodes (drop i entries)) (entries_text nodes entries) → IsUnderWay old now [] (entries_text nodes entries)
-all_written nodes entries i old now l so_far =
-    subst (λ (es : List DiagramEntry). IsUnderWay old now (entries_text nodes es) (entries_text nodes entries)) (drop_all i entries l) so_far
+good_alone : (b : Bool) → b ≡ (b && true)
+good_alone true = refl
+good_alone false = refl
+
+pub reply_good : (good : Bool) (reply : Reply) → good ≡ is_yes reply → good ≡ list_all is_good_answer (replied reply ∷ [])
+reply_good good reply e = e ∙ good_alone (is_yes reply)
+
+-- ---- the answers to the entries of a document
+
+abbrev pub entry_answers : List Node → List DiagramEntry → List Answer
+entry_answers nodes entries = map replied (map (look_reply nodes) entries)
+
+pub next_entry : (nodes : List Node) (entries : List DiagramEntry) (i : ℕ) (entry : DiagramEntry) → i < length entries → entry ≡ get_or entries i entry
+    → (reply : Reply) → reply ≡ look_reply nodes entry
+    → entry_answers nodes (drop i entries) ≡ (replied reply ∷ []) ++ entry_answers nodes (drop (i + 1) entries)
+next_entry nodes entries i entry within is reply e =
+    at_drop_more (entry_answers nodes) entries i entry within
+    ∙ ap (λ (r : Reply). replied r ∷ entry_answers nodes (drop (i + 1) entries)) (ap (look_reply nodes) (sym is) ∙ sym e)
+
+-- ---- no answer is left
+
+module _ {A : Type 0} (answers : List A → List Answer) (xs : List A) (i : ℕ) (past : length xs ≤ i) (none : answers [] ≡ []) where
+  pub none_left : answers (drop i xs) ≡ []
+  none_left = at_drop_all answers xs i past ∙ none
+
+  pub last_status : (s whole : Status) → answers_status s (answers (drop i xs)) ≡ whole → s ≡ whole
+  last_status s whole h = ap (answers_status s) (sym none_left) ∙ h
+
+  pub all_written : (old now : Option (List ℕ)) (whole : List ℕ) → IsUnderWay old now (answers_text (answers (drop i xs))) whole → IsUnderWay old now [] whole
+  all_written old now whole so_far = subst (λ (rest : List Answer). IsUnderWay old now (answers_text rest) whole) none_left so_far
 
 -- what holds in any case holds where the answer is an error
 pub on_err : {T E P : Type 0} (r : Result T E) → P → OnErr r P
 on_err (Ok x) p = tt
 on_err (Err e) p = p
-
--- ---- the text of a document's run
-
-pub prefix_of_run : (nodes : List Node) (entries : List DiagramEntry) (old now : Option (List ℕ)) → AppendsPrefix old now (entries_text nodes entries)
-    → AppendsPrefix old now (replying (map (look_reply nodes) entries)).text
-prefix_of_run nodes entries old now p = subst (AppendsPrefix old now) (sym (text_is nodes entries)) p
-
-pub whole_of_run : (nodes : List Node) (entries : List DiagramEntry) (old now : Option (List ℕ)) → Appends old now (entries_text nodes entries)
-    → Appends old now (replying (map (look_reply nodes) entries)).text
-whole_of_run nodes entries old now p = subst (Appends old now) (sym (text_is nodes entries)) p

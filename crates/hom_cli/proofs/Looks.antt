@@ -1,5 +1,5 @@
 -- What `look` says of one diagram.
-use Rattle.std.proofs.Common.{◌≡◌, ℕ, zero, suc, ◌<◌, ◌≤◌, ◌^◌, List, length, get_or, Option, refl, sym, ap, ◌∙◌, subst, arith}
+use Rattle.std.proofs.Common.{◌≡◌, ℕ, zero, suc, ◌<◌, ◌≤◌, List, length, get_or, Option, sym, ap, ◌∙◌, subst, arith}
 use Rattle.std.proofs.lemmas.List.{get_or_default}
 use Rattle.std.proofs.lemmas.List.Elements.{All-get_or}
 use Rattle.diagram_terms.specs.declared.node.Node.{Node}
@@ -7,18 +7,15 @@ use Rattle.diagram_terms.specs.declared.place.Place.{Place}
 use Rattle.diagram_terms.specs.Tree.{Tree, sings}
 use Rattle.diagram_terms.specs.Family.{length_of}
 use Rattle.diagram_terms.specs.Decoded.{dia}
-use Rattle.diagram_terms.specs.Tree.{label_at}
 use Rattle.diagram_terms.specs.Shape.{IsDiagram, IsArrow}
 use Rattle.diagram_terms.specs.Places.{first_bad_place}
 use Rattle.diagram_terms.specs.Dimension.{dimension_of}
-use Rattle.diagram_terms.specs.Nodes.{AreNodes, tree_at, sort_at, dim_of, greatest_dim}
+use Rattle.diagram_terms.specs.Nodes.{AreNodes, tree_at, dim_of, greatest_dim}
 use Rattle.diagram_terms.proofs.Dimensions.{diagram_dimension}
-use Rattle.diagram_terms.proofs.Glue.{dia-sings_len}
 use Rattle.diagram_terms.proofs.NodeShapes.{diagram_at, dim_of-sort_at}
 use Rattle.diagram_terms.proofs.Shapes.{one_kind}
 use Rattle.hashcons.specs.declared.id.AnyId.{AnyId}
 use Rattle.hashcons.specs.declared.id.AnyId.TheVariants as id
-use Rattle.hashcons.proofs.PickLemmas.{length-sings_point}
 use Rattle.hashcons.specs.Contents.{Contents, IsStore}
 use Rattle.hashcons.specs.Contents as store
 use Rattle.hashcons.specs.Ids.{GathersIds, IsOf, IsDiagramId, id_at, tree_of}
@@ -27,12 +24,8 @@ use Rattle.node_json.specs.declared.document.Document.{Document}
 use Rattle.node_json.specs.Documents.{IsDocument, IsDiagramPlace}
 use Rattle.workspace_json.specs.declared.reply.Reply.{Reply}
 use Rattle.workspace_json.specs.declared.reply.Reply.TheVariants.{Look}
+use Rattle.session_undo.proofs.TreeLengths.{tree_length}
 use Rattle.hom_cli.specs.Full.{looked_at, tree_reply, look_reply}
-
--- the length of a diagram by its tree
-pub tree_length : (d : ℕ) (t : Tree) → IsDiagram d t → length (sings t) ≡ length_of d (dia d t)
-tree_length zero t h = ap (λ (u : Tree). length (sings u)) h ∙ length-sings_point (label_at t)
-tree_length (suc d) t h = sym (dia-sings_len d t)
 
 pub looked : (name : List ℕ) (t : Tree) (d len : ℕ) (at : Option Place) → IsDiagram d t → len ≡ length (sings t)
     → at ≡ first_bad_place (dimension_of t) (dia (dimension_of t) t) → Look d len name at ≡ tree_reply name t

@@ -1,15 +1,15 @@
 -- What a run makes of its words and its input.
-use Rattle.std.proofs.Common.{◌≡◌, ℕ, ◌+◌, ◌<◌, ◌≤◌, List, [], length, Option, Result, Ok, Err, Some, None, IsSome, refl, subst, ◌∙◌}
-use Rattle.std.specs.Prelude.{nat_lt}
+use Rattle.std.proofs.Common.{◌≡◌, ℕ, ◌+◌, ◌<◌, ◌≤◌, List, length, Option, Result, Ok, Err, Some, None, IsSome, refl, sym, subst, ◌∙◌}
+use Rattle.std.specs.Prelude.{option_map}
 use Rattle.std.proofs.lemmas.Bool.{false≢true, lt-ltb, le-ltb}
 use Rattle.std.proofs.KnownBytes.{Appends-nil}
 use Rattle.node_json.specs.Reading.{exact_document}
-use Rattle.hom_cli.specs.declared.status.Status.{Status}
-use Rattle.hom_cli.specs.declared.status.Status.TheVariants as status
 use Rattle.node_json.specs.declared.document.Document.{Document}
 use Rattle.node_json.specs.declared.fault.FormFault.{FormFault}
-use Rattle.hom_cli.specs.Modes.{mode_run}
-use Rattle.hom_cli.specs.Full.{Mode, Run, full, on_document, on_input, mode_of, input_limit, Writes}
+use Rattle.hom_cli.specs.declared.status.Status.{Status}
+use Rattle.hom_cli.specs.declared.status.Status.TheVariants as status
+use Rattle.hom_cli.specs.Modes.{question_run}
+use Rattle.hom_cli.specs.Full.{IsTooMuch, Mode, Question, Reads, Run, Writes, asks, full, input_limit, mode_of, on_document, on_input}
 
 -- what is there
 pub there : {A : Type 0} (o : Option A) → IsSome o → (x : A) × (o ≡ Some x)
@@ -21,20 +21,33 @@ pub writes_usage : (words : List (List ℕ)) (bytes : List ℕ) (old : Option (L
 unfolding full
 writes_usage words bytes old other = rw other (refl, Appends-nil old)
 
-module _ (words : List (List ℕ)) (mode : Mode) (is : mode_of words ≡ Some mode) where
-  -- too long an input
-  pub writes_too_long : (bytes : List ℕ) (old : Option (List ℕ)) → input_limit < length bytes → Writes (full words bytes) status.TooLong old old
+-- words that ask for a mode
+module _ (words : List (List ℕ)) (mode : Option Mode) (is : mode_of words ≡ mode) where
+  pub writes_mode : (bytes : List ℕ) (s : Status) (old new : Option (List ℕ)) → Writes (on_input mode bytes) s old new → Writes (full words bytes) s old new
   unfolding full
+  writes_mode bytes s old new wrote = subst (λ (m : Option Mode). Writes (on_input m bytes) s old new) (sym is) wrote
+
+  pub reads_mode : (s : Status) (old new : Option (List ℕ)) → Reads mode s old new → Reads (mode_of words) s old new
+  reads_mode s old new read = subst (λ (m : Option Mode). Reads m s old new) (sym is) read
+
+-- ---- a document
+
+pub too_much : (found : Option Question) (taken : List ℕ) → length taken ≡ input_limit + 1 → IsTooMuch (option_map asks found) taken
+too_much None taken e = e
+too_much (Some question) taken e = e
+
+module _ (found : Option Question) (question : Question) (is : found ≡ Some question) where
+  -- too long an input
+  pub writes_too_long : (bytes : List ℕ) (old : Option (List ℕ)) → input_limit < length bytes → Writes (on_input (option_map asks found) bytes) status.TooLong old old
   writes_too_long bytes old long = rw (is, lt-ltb input_limit (length bytes) long) (refl, Appends-nil old)
 
-  -- a mode on the bytes that were read
-  pub writes_answer : (asked : Option Mode) (taken bytes : List ℕ) (s : Status) (old new : Option (List ℕ)) → asked ≡ Some mode
-      → length taken ≤ input_limit → bytes ≡ taken → Writes (mode_run asked (exact_document bytes)) s old new → Writes (full words taken) s old new
-  unfolding full
-  writes_answer asked taken bytes s old new some short same wrote =
-      let run_is : mode_run asked (exact_document bytes) ≡ on_document mode (exact_document taken) =
-      (λ i. mode_run (some i) (exact_document (same i))) ∙ on_mode (exact_document taken) in
+  -- a question on the bytes that were read
+  pub writes_answer : (taken bytes : List ℕ) (s : Status) (old new : Option (List ℕ)) → length taken ≤ input_limit → bytes ≡ taken
+      → Writes (question_run found (exact_document bytes)) s old new → Writes (on_input (option_map asks found) taken) s old new
+  writes_answer taken bytes s old new short same wrote =
+      let run_is : question_run found (exact_document bytes) ≡ on_document question (exact_document taken) =
+      (λ i. question_run (is i) (exact_document (same i))) ∙ on_question (exact_document taken) in
       rw (is, le-ltb input_limit (length taken) short) (subst (λ (r : Run). Writes r s old new) run_is wrote) where
-        on_mode : (read : Result Document FormFault) → mode_run (Some mode) read ≡ on_document mode read
-        on_mode (Ok document) = refl
-        on_mode (Err fault) = refl
+        on_question : (read : Result Document FormFault) → question_run (Some question) read ≡ on_document question read
+        on_question (Ok document) = refl
+        on_question (Err fault) = refl

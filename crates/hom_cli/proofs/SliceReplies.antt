@@ -1,5 +1,5 @@
 -- What `slice` says of a document.
-use Rattle.std.proofs.Common.{◌≡◌, ℕ, ◌<◌, List, [], ◌∷◌, ◌++◌, length, get_or, Bool, true, false, Option, Some, None, Result, Ok, Err, IfOk, refl, sym, ap, ◌∙◌, subst, append-nil}
+use Rattle.std.proofs.Common.{◌≡◌, ℕ, List, [], ◌∷◌, Bool, true, false, Option, Some, Result, Ok, Err, IfOk, refl, sym, ap, ◌∙◌, subst, append-nil}
 use Rattle.std.proofs.lemmas.List.Elements.{All-head, All-tail}
 use Rattle.std.specs.List.{All, find}
 use Rattle.std.specs.Prelude.{bytes_eq, if◌then◌else◌, option_map}
@@ -15,8 +15,8 @@ use Rattle.node_json.specs.Documents.{IsDocument, IsDiagramPlace}
 use Rattle.workspace_json.specs.Paths.{path_in}
 use Rattle.workspace_json.specs.Replies.{text_of_reply}
 use Rattle.hom_cli.specs.declared.status.Status.TheVariants as status
-use Rattle.hom_cli.specs.Full.{Run, is_yes, line, replying, root_of, slice_found, slice_reply, slice_under}
-use Rattle.hom_cli.specs.Modes.{mode_run, slice_mode}
+use Rattle.hom_cli.specs.Full.{Run, is_yes, line, replying, root_of, slice_found, slice_question, slice_reply, slice_under}
+use Rattle.hom_cli.specs.Modes.{question_run}
 
 -- ---- the diagram of a name
 
@@ -58,18 +58,18 @@ as_said (Err e) printed said same is = tt
 
 module _ (document : Document) (name path : List ℕ) (heights : List Height) (reply : Reply)
     (is : path_in path ≡ Some heights) (reply_is : reply ≡ slice_reply document name heights) where
-  slice_run : mode_run (slice_mode name path) (Ok document) ≡ replying (reply ∷ [])
+  slice_run : question_run (slice_question name path) (Ok document) ≡ replying (reply ∷ [])
   slice_run = rw (is, reply_is) refl
 
-  pub slice_text : (mode_run (slice_mode name path) (Ok document)).text ≡ line (text_of_reply reply)
+  pub slice_text : (question_run (slice_question name path) (Ok document)).text ≡ line (text_of_reply reply)
   slice_text = ap (λ (r : Run). r.text) slice_run ∙ append-nil (line (text_of_reply reply))
 
-  yes_status : (b : Bool) → is_yes reply ≡ b → (mode_run (slice_mode name path) (Ok document)).status ≡ (if b then status.Done else status.Refused)
+  yes_status : (b : Bool) → is_yes reply ≡ b → (question_run (slice_question name path) (Ok document)).status ≡ (if b then status.Done else status.Refused)
   yes_status true e = ap (λ (r : Run). r.status) slice_run ∙ rw e refl
   yes_status false e = ap (λ (r : Run). r.status) slice_run ∙ rw e refl
 
-  pub done_status : is_yes reply ≡ true → status.Done ≡ (mode_run (slice_mode name path) (Ok document)).status
+  pub done_status : is_yes reply ≡ true → status.Done ≡ (question_run (slice_question name path) (Ok document)).status
   done_status e = sym (yes_status true e)
 
-  pub refused_status : is_yes reply ≡ false → status.Refused ≡ (mode_run (slice_mode name path) (Ok document)).status
+  pub refused_status : is_yes reply ≡ false → status.Refused ≡ (question_run (slice_question name path) (Ok document)).status
   refused_status e = sym (yes_status false e)

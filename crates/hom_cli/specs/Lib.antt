@@ -1,3 +1,4 @@
 pub mod Status
 pub mod Full
 pub mod Modes
+pub mod Taken

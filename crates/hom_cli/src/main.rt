@@ -7,8 +7,10 @@ mod answer;
 mod look;
 mod nodes;
 mod program;
+mod replay;
 mod slice;
 mod status;
+mod taking;
 mod words;
 mod writing;
 

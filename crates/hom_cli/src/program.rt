@@ -1,15 +1,36 @@
-ghost use Rattle.std.specs.Prelude.{◌≡◌, ◌≤◌, ◌↔◌, List, ℕ, IfSome, None, map, string_bytes};
+ghost use Rattle.std.specs.Prelude.{◌≡◌, ◌≢◌, ◌≤◌, ◌↔◌, List, ℕ, IfSome, IsSome, None, map, string_bytes};
 ghost use Rattle.io_edge.specs.Counts.{Rose};
-ghost use Rattle.hom_cli.specs.Full.{full, mode_of, Writes, Reads};
+ghost use Rattle.hom_cli.specs.Full.{full, mode_of, on_input, Writes, Reads};
+ghost use Rattle.hom_cli.specs.Modes.{mode_in, question_in};
 
 use crate::answer::answer;
+use crate::replay::replay;
 use crate::status::Status;
-use crate::words::asked_of;
+use crate::words::{Asked, Query, asked_of};
 use io_edge::{ReadAllFault, Sink, Source, read_all};
 use std::alloc::Global;
 
-/// The greatest length of an input, in bytes.
+/// The greatest length of a document, in bytes.
 const INPUT_LIMIT: usize = 67_108_864;
+
+/// What a document says to a query, with the bytes of this input as the document.
+fn ask<S: Source, K: Sink>(alloc: Global, query: Query, input: &mut S, output: &mut K) -> Status
+    requires { IsSome (question_in query) }
+    ensures writes { (bytes : List ℕ) × IfSome (S.left input.old) (λ left. bytes ≡ left)
+        × Writes (on_input (mode_in (Asked.Document query.entry)) bytes) result (K.written output.old) (K.written output.new) }
+    ensures reads { Reads (mode_in (Asked.Document query.entry)) result (S.left input.old) (S.left input.new) }
+    ensures read_fault { result ≡ Status.ReadFault → Rose (S.faults input.old) (S.faults input.new) }
+    ensures write_fault { result ≡ Status.WriteFault → Rose (K.faults output.old) (K.faults output.new) }
+    ensures later { (S.faults input.old ≤ S.faults input.new) × (K.faults output.old ≤ K.faults output.new) }
+    ensures others { result ≢ Status.Usage }
+{
+    match read_all(alloc, input, INPUT_LIMIT) {
+        Ok(bytes) => answer(alloc, query, &bytes, output),
+        Err(ReadAllFault::ReadFault) => Status::ReadFault,
+        Err(ReadAllFault::TooLong) => Status::TooLong,
+        Err(ReadAllFault::NoMemory) => Status::NoMemory,
+    }
+}
 
 /// All that the program does on these words, but for the program's name, with this input and output.
 pub fn run<S: Source, K: Sink>(
@@ -22,7 +43,7 @@ pub fn run<S: Source, K: Sink>(
     // status are those of the full run, or what is left of them where the run stops short.
     ensures writes { (bytes : List ℕ) × IfSome (S.left input.old) (λ left. bytes ≡ left)
         × Writes (full (map string_bytes words.now) bytes) result (K.written output.old) (K.written output.new) }
-    ensures reads { Reads result (S.left input.old) (S.left input.new) }
+    ensures reads { Reads (mode_of (map string_bytes words.now)) result (S.left input.old) (S.left input.new) }
 
     // Words of no form: nothing is read or written.
     ensures usage { (result ≡ Status.Usage) ↔ (mode_of (map string_bytes words.now) ≡ None) }
@@ -33,13 +54,9 @@ pub fn run<S: Source, K: Sink>(
     ensures write_fault { result ≡ Status.WriteFault → Rose (K.faults output.old) (K.faults output.new) }
     ensures later { (S.faults input.old ≤ S.faults input.new) × (K.faults output.old ≤ K.faults output.new) }
 {
-    let Some(asked) = asked_of(words) else {
-        return Status::Usage;
-    };
-    match read_all(alloc, input, INPUT_LIMIT) {
-        Ok(bytes) => answer(alloc, asked, &bytes, output),
-        Err(ReadAllFault::ReadFault) => Status::ReadFault,
-        Err(ReadAllFault::TooLong) => Status::TooLong,
-        Err(ReadAllFault::NoMemory) => Status::NoMemory,
+    match asked_of(words) {
+        Some(Asked::Document(query)) => ask(alloc, query, input, output),
+        Some(Asked::Replay) => replay(alloc, input, output),
+        None => Status::Usage,
     }
 }

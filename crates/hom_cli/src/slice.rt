@@ -2,21 +2,21 @@ ghost use Rattle.std.specs.Prelude.{◌≡◌, ◌≤◌, IfOk, IsErrOf, IsSome,
 ghost use Rattle.std.specs.Io.KnownBytes.{Appends};
 ghost use Rattle.io_edge.specs.Counts.{Rose};
 ghost use Rattle.io_edge.specs.Transfers.{AppendsPrefix};
-ghost use Rattle.hashcons.specs.Contents.{IsDiagramOf, diagram_at};
 ghost use Rattle.node_json.specs.Documents.{IsDocument};
 ghost use Rattle.workspace_json.specs.Paths.{path_in};
-ghost use Rattle.hom_cli.specs.Full.{printed, root_of, slice_reply as slice_reply_lem};
-ghost use Rattle.hom_cli.specs.Modes.{mode_run, slice_mode};
+ghost use Rattle.hom_cli.specs.Full.{root_of, slice_question, slice_reply as slice_reply_lem};
+ghost use Rattle.hom_cli.specs.Modes.{question_run};
 
 use crate::nodes::diagram_of;
 use crate::status::Status;
 use crate::writing::{is_yes, write_line};
 use boundary_paths::{NoHeight, slice};
-use diagram_terms::{Height, Items, Text};
-use hashcons::{AnyId, DiagramId, Store};
+use diagram_terms::{Height, Text};
+use hashcons::Store;
 use io_edge::{Sink, WriteAllFault};
 use std::alloc::{AllocError, Global};
 use workspace_json::{Document, Refusal, Reply, path_of, reply_text};
+use workspace_lists::printed;
 
 /// The place of the diagram of this name.
 fn root_named(document: &Document, name: &str) -> Option<usize>
@@ -28,18 +28,6 @@ fn root_named(document: &Document, name: &str) -> Option<usize>
         .iter()
         .find(|entry| entry.name.as_str() == name)
         .map(|entry| entry.root)
-}
-
-/// The distinct subtrees of a diagram as nodes, and its place among them.
-fn printed(store: &Store, d: DiagramId) -> Result<Reply, AllocError>
-    requires { IsDiagramOf store.now d }
-    ensures { IfOk result (λ reply. reply ≡ printed (diagram_at store.now d)) }
-{
-    let (nodes, places) = store.list(&[AnyId::Diagram(d)])?;
-    Ok(Reply::Slice {
-        nodes: Items::from_vec(nodes),
-        root: places[0],
-    })
 }
 
 /// What `slice` replies to a document.
@@ -76,11 +64,11 @@ pub(crate) fn write_slice<K: Sink>(
     requires form { IsSome (path_in path.now) }
     requires document { IsDocument document.now }
     ensures ok { IfOk result
-        (λ status. status ≡ (mode_run (slice_mode name.now path.now) (Ok document.now)).status) }
+        (λ status. status ≡ (question_run (slice_question name.now path.now) (Ok document.now)).status) }
     ensures wrote { OnOk result
-        (Appends (K.written output.old) (K.written output.new) (mode_run (slice_mode name.now path.now) (Ok document.now)).text) }
+        (Appends (K.written output.old) (K.written output.new) (question_run (slice_question name.now path.now) (Ok document.now)).text) }
     ensures err { OnErr result
-        (AppendsPrefix (K.written output.old) (K.written output.new) (mode_run (slice_mode name.now path.now) (Ok document.now)).text) }
+        (AppendsPrefix (K.written output.old) (K.written output.new) (question_run (slice_question name.now path.now) (Ok document.now)).text) }
     ensures later { K.faults output.old ≤ K.faults output.new }
     ensures cause { IsErrOf result WriteAllFault.WriteFault
         → Rose (K.faults output.old) (K.faults output.new) }

@@ -5,6 +5,8 @@ use std::alloc::{AllocError, Global};
 use std::process::Abort;
 use std::test::Fail;
 
+mod replays;
+
 const ONE_ARROW: &str =
     "{\"diagrams\":[{\"name\":\"F\",\"root\":3}],\"format\":1,\"generators\":[],\"maps\":[],\"nodes\":[{\"label\":[0,0]},{\"label\":[1,1]},{\"labels\":[[0,0],[1,1]]},{\"bwds\":[2],\"fwds\":[2],\"regs\":[0,0],\"sings\":[1]}]}";
 
@@ -158,12 +160,14 @@ fn slices_diagrams(rt: HostRuntime) -> Result<(), Fail> {
 /// call and fails at `write_fails`.
 fn run_on(
     alloc: Global,
+    word: &str,
+    text: &str,
     read_fails: usize,
     write_fails: usize,
 ) -> Result<(Status, Vec<u8>), AllocError> {
-    let words = words_of(alloc, "look")?;
+    let words = words_of(alloc, word)?;
     let mut input = MemSource::new(
-        Vec::from_slice(alloc, ONE_ARROW.as_bytes())?,
+        Vec::from_slice(alloc, text.as_bytes())?,
         7,
         vec![in alloc; read_fails]?,
     );
@@ -175,21 +179,28 @@ fn run_on(
 #[test]
 fn stops_short(rt: HostRuntime) -> Result<(), Fail> {
     let alloc = rt.alloc();
-    let line = ONE_ARROW_LINE.as_bytes();
+    let arrow = ("look", ONE_ARROW, ONE_ARROW_LINE);
+    let lines = (
+        "replay",
+        replays::POINT_AND_LOOP,
+        replays::POINT_AND_LOOP_LINES,
+    );
     let cases = [
-        (1000, 1000, Status::Done, line.len()),
-        (0, 1000, Status::ReadFault, 0),
-        (3, 0, Status::ReadFault, 0),
-        (1000, 0, Status::WriteFault, 0),
-        (1000, 2, Status::WriteFault, 32),
+        (arrow, 1000, 1000, Status::Done, ONE_ARROW_LINE.len()),
+        (arrow, 0, 1000, Status::ReadFault, 0),
+        (arrow, 3, 0, Status::ReadFault, 0),
+        (arrow, 1000, 0, Status::WriteFault, 0),
+        (arrow, 1000, 2, Status::WriteFault, 32),
+        (lines, 1000, 5, Status::WriteFault, 65),
+        (lines, 0, 1000, Status::ReadFault, 0),
     ];
-    for (read_fails, write_fails, status, count) in cases {
-        let (answer, written) = run_on(alloc, read_fails, write_fails)?;
-        assert_eq!(rt; answer, status, "{read_fails} {write_fails}");
-        assert_eq!(rt; written.len(), count, "{read_fails} {write_fails}");
+    for ((word, text, whole), read_fails, write_fails, status, count) in cases {
+        let (answer, written) = run_on(alloc, word, text, read_fails, write_fails)?;
+        assert_eq!(rt; answer, status, "{word} {read_fails} {write_fails}");
+        assert_eq!(rt; written.len(), count, "{word} {read_fails} {write_fails}");
         assert!(rt;
-            line.starts_with(written.as_slice()),
-            "{read_fails} {write_fails}"
+            whole.as_bytes().starts_with(written.as_slice()),
+            "{word} {read_fails} {write_fails}"
         );
     }
     Ok(())

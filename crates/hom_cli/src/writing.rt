@@ -16,8 +16,16 @@ pub(crate) fn is_yes(reply: &Reply) -> bool
 {
     match reply {
         Reply::Look { at, .. } => at.is_none(),
-        Reply::Slice { .. } => true,
         Reply::Refused(_) => false,
+        Reply::Generator { .. }
+        | Reply::Stored { .. }
+        | Reply::Named { .. }
+        | Reply::Slice { .. }
+        | Reply::Equal { .. }
+        | Reply::Stats { .. }
+        | Reply::Save { .. }
+        | Reply::Undo
+        | Reply::Redo => true,
     }
 }
 

@@ -15,8 +15,9 @@ mod sorts;
 pub use document::{DiagramEntry, Document, GeneratorEntry, MapEntry};
 pub use fault::{Field, FormFault};
 pub use laws::documents_are_read_back;
+pub use names::is_good_name;
 pub use parts::{has_keys, keyed, list_at, text_at, value_of};
-pub use printing::{document_text, nodes_value};
+pub use printing::{document_text, document_value, nodes_value};
 pub use reading::{field_fault, read_document};
 
 #[cfg(test)]

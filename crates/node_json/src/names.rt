@@ -25,8 +25,8 @@ fn are_name_bytes(bytes: &[u8]) -> bool
     bytes.iter().all(|byte| is_name_byte(*byte))
 }
 
-/// Whether a document may use the name.
-fn is_good_name(name: &str) -> bool
+/// Whether something may have the name: 1 to 64 bytes from `!` to `~`, none of them `"`, `\` or `:`.
+pub fn is_good_name(name: &str) -> bool
     ensures { result ≡ is_good_name name.now }
 {
     (1..=GREATEST_LENGTH).contains(&name.len()) && are_name_bytes(name.as_bytes())

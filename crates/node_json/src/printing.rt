@@ -151,7 +151,8 @@ fn maps_value(alloc: Global, maps: &[MapEntry]) -> Result<Value, AllocError>
     Ok(Value::Array(values))
 }
 
-fn document_value(alloc: Global, document: &Document) -> Result<Value, AllocError>
+/// The value of a document.
+pub fn document_value(alloc: Global, document: &Document) -> Result<Value, AllocError>
     ensures { IfOk result (λ value. view value ≡ document_data document.now) }
 {
     json!(in alloc; {

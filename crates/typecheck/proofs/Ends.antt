@@ -18,9 +18,10 @@ use Rattle.diagram_terms.specs.Typing.{Generator, generator_dim, IsWellTyped, Is
 use Rattle.diagram_terms.proofs.Duals.{length-upto, get-upto}
 use Rattle.hashcons.specs.Contents.{Contents, IsDiagramOf, diagram_at}
 use Rattle.zigzag_maps.specs.Found.{IsValidDiagram}
-use Rattle.boundary_paths.specs.Trees.{type_tree, HasLabelsBelowTree}
+use Rattle.diagram_terms.specs.ConeTrees.{type_tree, HasLabelsBelowTree}
 use Rattle.plain_maps.specs.Plainness.{IsPlainDiagramTree}
-use Rattle.typecheck.specs.Signatures.{Entry, AreEndsOf, AreGoodOver, IsBoundaryOf, no_entry, generator_in, generators_in, label_of, type_of_generator}
+use Rattle.diagram_terms.specs.GeneratorTypes.{label_of, type_of_generator}
+use Rattle.typecheck.specs.Signatures.{Entry, AreEndsOf, AreGoodOver, IsBoundaryOf, no_entry, generator_in, generators_in}
 use Rattle.typecheck.proofs.GoodSignatures.{good_boundary_at, generator_at}
 
 -- ---- a fact of each point, part by part

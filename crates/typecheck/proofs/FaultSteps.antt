@@ -9,7 +9,8 @@ use Rattle.diagram_terms.specs.Tree.{Tree}
 use Rattle.diagram_terms.specs.Typing.{Generator, first_of}
 use Rattle.plain_maps.specs.Plainness.{loose_leg}
 use Rattle.zigzag_maps.specs.Visits.{diagram_fault}
-use Rattle.typecheck.specs.Points.{HaveDims, first_point_fault_in, first_fault_in}
+use Rattle.diagram_terms.specs.Typing.{first_point_fault_in, first_fault_in}
+use Rattle.typecheck.specs.Points.{HaveDims}
 use Rattle.typecheck.specs.Walk.{first_failing, failing_in, fault_over}
 use Rattle.typecheck.proofs.PointFaults.{first_fault_over}
 

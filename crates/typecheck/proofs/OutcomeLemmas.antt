@@ -17,9 +17,11 @@ use Rattle.typecheck.specs.declared.refusal.AddRefusal.{AddRefusal}
 use Rattle.typecheck.specs.declared.refusal.AddRefusal.TheVariants as refusal
 use Rattle.typecheck.specs.declared.verdict.Verdict.{Verdict}
 use Rattle.typecheck.specs.declared.verdict.Verdict.TheVariants as verdict
-use Rattle.typecheck.specs.Outcomes.{have_one_boundary, boundary_refusal, count_refusal, end_refusal, typing_refusal, first_refusal, unless, add_outcome, answer_of, IsAnswer, IsRefusal}
-use Rattle.typecheck.specs.Points.{first_fault_in}
-use Rattle.typecheck.specs.Signatures.{Entry, generator_in, generators_in, entry_of, label_of, AreGoodOver, IsBoundaryOf}
+use Rattle.diagram_terms.specs.Slices.{have_one_boundary}
+use Rattle.typecheck.specs.Outcomes.{boundary_refusal, count_refusal, end_refusal, typing_refusal, first_refusal, unless, add_outcome, answer_of, IsAnswer, IsRefusal}
+use Rattle.diagram_terms.specs.Typing.{first_fault_in}
+use Rattle.diagram_terms.specs.GeneratorTypes.{label_of}
+use Rattle.typecheck.specs.Signatures.{Entry, generator_in, generators_in, entry_of, AreGoodOver, IsBoundaryOf}
 use Rattle.typecheck.specs.Verdicts.{fault_in}
 use Rattle.typecheck.proofs.GoodSignatures.{good-push, good-kept}
 use Rattle.typecheck.proofs.WellTypedness.{no_fault}

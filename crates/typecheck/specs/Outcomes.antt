@@ -1,19 +1,14 @@
 -- Whether a generator may be added to some generators, and else why not.
-use Rattle.std.specs.Prelude.{◌≡◌, ◌⊎◌, suc, List, length, Bool, ◌||◌, ◌&&◌, ◌==◌, nat_le, nat_lt, if◌then◌else◌, Option, Some, None, option_map, Result, Ok, Err}
+use Rattle.std.specs.Prelude.{◌≡◌, ◌⊎◌, suc, List, length, Bool, ◌==◌, nat_le, nat_lt, if◌then◌else◌, Option, Some, None, option_map, Result, Ok, Err}
 use Rattle.diagram_terms.specs.declared.label.Label.{Label}
-use Rattle.diagram_terms.specs.Completion.{same_tree}
 use Rattle.diagram_terms.specs.Dimension.{dimension_of}
-use Rattle.diagram_terms.specs.Slices.{source_tree, target_tree}
+use Rattle.diagram_terms.specs.Slices.{have_one_boundary}
 use Rattle.diagram_terms.specs.Tree.{Tree}
 use Rattle.diagram_terms.specs.Typing.{Generator}
 use Rattle.typecheck.specs.declared.refusal.AddRefusal.{AddRefusal}
 use Rattle.typecheck.specs.declared.refusal.AddRefusal.TheVariants as refusal
-use Rattle.typecheck.specs.Points.{first_fault_in}
-use Rattle.typecheck.specs.Signatures.{label_of}
-
--- above dimension 0 the two trees have one source and one target
-abbrev pub have_one_boundary : Tree → Tree → Bool
-have_one_boundary s t = (dimension_of s == 0) || (same_tree (source_tree s) (source_tree t) && same_tree (target_tree s) (target_tree t))
+use Rattle.diagram_terms.specs.Typing.{first_fault_in}
+use Rattle.diagram_terms.specs.GeneratorTypes.{label_of}
 
 -- the first refusal of two
 abbrev pub first_refusal : Option AddRefusal → Option AddRefusal → Option AddRefusal

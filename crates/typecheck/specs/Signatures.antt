@@ -1,10 +1,7 @@
 -- What callers see of a signature, and which signatures are good over a store.
 use Rattle.std.specs.Prelude.{◌≡◌, ℕ, ◌<◌, ◌≤◌, ◌-◌, min, List, [], ◌∷◌, length, map, get_or, Option, Some, None}
-use Rattle.diagram_terms.specs.declared.label.Label.{Label}
-use Rattle.diagram_terms.specs.Tree.{Tree, point}
 use Rattle.diagram_terms.specs.Typing.{Generator, generator_dim, IsGoodSignature}
 use Rattle.hashcons.specs.Contents.{Contents, IsDiagramOf, diagram_at}
-use Rattle.boundary_paths.specs.Trees.{type_tree}
 
 -- what is kept of a generator: the ids of its source and its target, if it has a boundary, and its dimension
 pub record Entry : Type 0 where
@@ -70,12 +67,3 @@ pub record AreGoodOver (c : Contents) (entries : List Entry) : Type 0 where
 
 abbrev pub IsGoodOver : Contents → SignatureState → Type 0
 IsGoodOver c s = AreGoodOver c s.entries
-
--- the label of the i-th generator: its place, and its dimension
-abbrev pub label_of : ℕ → Generator → Label
-label_of i g = record { number = i; dim = generator_dim g }
-
--- the type of the i-th generator: the label alone, or the cones with the label over its source and its target
-abbrev pub type_of_generator : ℕ → Generator → Tree
-type_of_generator i None = point (label_of i None)
-type_of_generator i (Some (s, t)) = type_tree s t (label_of i (Some (s, t)))

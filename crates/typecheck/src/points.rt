@@ -5,7 +5,8 @@ ghost use Rattle.diagram_terms.specs.Typing.{Generator};
 ghost use Rattle.hashcons.specs.Contents.{IsDiagramOf, IsStore, diagram_at};
 ghost use Rattle.zigzag_maps.specs.Validity.{IsDiagramAt};
 ghost use Rattle.typecheck.specs.Passed.{HavePassed};
-ghost use Rattle.typecheck.specs.Points.{HaveDims, first_point_fault_in};
+ghost use Rattle.diagram_terms.specs.Typing.{first_point_fault_in};
+ghost use Rattle.typecheck.specs.Points.{HaveDims};
 ghost use Rattle.typecheck.specs.Walk.{is_known, may_stand, failing_in, failing_at_reg, failing_at_sing, point_of, fault_over};
 
 use crate::passed::Passed;

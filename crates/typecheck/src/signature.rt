@@ -49,8 +49,9 @@ impl Signature {
     ghost use Rattle.diagram_terms.specs.Typing.{IsWellTyped};
     ghost use Rattle.hashcons.specs.Contents.{Grows, IsDiagramOf, diagram_at};
     ghost use Rattle.typecheck.specs.Outcomes.{IsAnswer, IsRefusal, add_outcome, end_refusal, typing_refusal};
-    ghost use Rattle.typecheck.specs.Points.{first_fault_in};
-    ghost use Rattle.typecheck.specs.Signatures.{IsBoundaryOf, IsGoodOver, AreGoodOver, entry_at, entry_of, generator_in, generators_of, type_of_generator};
+    ghost use Rattle.diagram_terms.specs.Typing.{first_fault_in};
+    ghost use Rattle.diagram_terms.specs.GeneratorTypes.{type_of_generator};
+    ghost use Rattle.typecheck.specs.Signatures.{IsBoundaryOf, IsGoodOver, AreGoodOver, entry_at, entry_of, generator_in, generators_of};
     ghost use Rattle.typecheck.specs.Verdicts.{fault_in};
 
     /// A signature with no generators. It takes no memory.

@@ -1,7 +1,8 @@
 ghost use Rattle.std.specs.Prelude.{◌≡◌, List, IfOk};
 ghost use Rattle.diagram_terms.specs.Typing.{Generator};
 ghost use Rattle.hashcons.specs.Contents.{IsDiagramOf, Grows, IsStore, diagram_at};
-ghost use Rattle.typecheck.specs.Points.{HaveDims, first_fault_in};
+ghost use Rattle.diagram_terms.specs.Typing.{first_fault_in};
+ghost use Rattle.typecheck.specs.Points.{HaveDims};
 
 use crate::points::first_failing_point;
 use diagram_terms::Fault;

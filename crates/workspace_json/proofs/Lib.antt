@@ -3,4 +3,6 @@ mod PathWords
 mod PathTurns
 mod Samples
 mod SampleCommands
+mod SampleSteps
 mod ReplyTexts
+mod SpacedTexts

@@ -1,14 +1,17 @@
 -- The definitions at small documents, by computation.
-use Rattle.std.proofs.Common.{◌≡◌, [], ◌∷◌, codes, Some, None, refl}
+use Rattle.std.proofs.Common.{◌≡◌, [], ◌∷◌, codes, true, false, Some, None, refl}
 use Rattle.std.specs.Fmt.{digits}
 use Rattle.serde_json.proofs.OnLiterals.{serde_json_on_literals}
 use Rattle.diagram_terms.specs.declared.node.Node.TheVariants as node
 use Rattle.diagram_terms.specs.declared.place.Height.TheVariants as height
 use Rattle.diagram_terms.specs.declared.place.Step.TheVariants as step
 use Rattle.diagram_terms.specs.declared.place.End.TheVariants as at_end
+use Rattle.diagram_terms.specs.declared.place.Fault.TheVariants as place_fault
 use Rattle.node_json.specs.declared.fault.Field.TheVariants as field
 use Rattle.node_json.specs.declared.fault.FormFault.TheVariants as fault
-use Rattle.workspace_json.specs.declared.reply.Reply.TheVariants.{Look, Slice, Refused}
+use Rattle.workspace_json.specs.declared.reply.Reply.TheVariants.{Look, Generator, Stored, Named, Slice, Equal, Stats, Save, Undo, Redo, Refused}
+use Rattle.workspace_json.specs.declared.reply.Word.TheVariants.{Identity, Boundary, Drop}
+use Rattle.workspace_json.specs.declared.refusal.Refusal.TheVariants as refusal
 use Rattle.workspace_json.specs.declared.refusal.Refusal.TheVariants.{Unknown, NoHeight}
 use Rattle.workspace_json.specs.Paths.{number_in, height_in, path_text, path_in}
 use Rattle.workspace_json.specs.Places.{place_text}
@@ -47,6 +50,113 @@ unknown_name = refl
 no_height : text_of_reply (Refused (NoHeight 2)) ≡ codes "{\"refused\":\"NoHeight\",\"step\":2}"
 unfolding digits serde_json_on_literals
 no_height = refl
+
+-- ---- replies to commands
+
+new_generator : text_of_reply (Generator 1 (codes "f") 12) ≡ codes "{\"dim\":1,\"name\":\"f\",\"number\":12,\"ok\":\"generator\"}"
+unfolding digits serde_json_on_literals
+new_generator = refl
+
+new_identity : text_of_reply (Stored 1 0 (codes "ix") Identity) ≡ codes "{\"dim\":1,\"length\":0,\"name\":\"ix\",\"ok\":\"identity\"}"
+unfolding digits serde_json_on_literals
+new_identity = refl
+
+new_boundary : text_of_reply (Stored 0 0 (codes "b") Boundary) ≡ codes "{\"dim\":0,\"length\":0,\"name\":\"b\",\"ok\":\"boundary\"}"
+unfolding digits serde_json_on_literals
+new_boundary = refl
+
+dropped : text_of_reply (Named (codes "s") Drop) ≡ codes "{\"name\":\"s\",\"ok\":\"drop\"}"
+unfolding serde_json_on_literals
+dropped = refl
+
+are_equal : text_of_reply (Equal true) ≡ codes "{\"ok\":\"equal\",\"value\":true}"
+unfolding serde_json_on_literals
+are_equal = refl
+
+are_not_equal : text_of_reply (Equal false) ≡ codes "{\"ok\":\"equal\",\"value\":false}"
+unfolding serde_json_on_literals
+are_not_equal = refl
+
+numbers : text_of_reply (Stats 1 3 4 0 2) ≡ codes "{\"arrows\":1,\"diagrams\":3,\"generators\":4,\"maps\":0,\"named\":2,\"ok\":\"stats\"}"
+unfolding digits serde_json_on_literals
+numbers = refl
+
+saved : text_of_reply (Save (record { generators = record { name = codes "x"; boundary = None } ∷ []; diagrams = []; maps = []; nodes = [] }))
+    ≡ codes "{\"document\":{\"diagrams\":[],\"format\":1,\"generators\":[{\"name\":\"x\"}],\"maps\":[],\"nodes\":[]},\"ok\":\"save\"}"
+unfolding digits serde_json_on_literals
+saved = refl
+
+taken_back : text_of_reply (Undo) ≡ codes "{\"ok\":\"undo\"}"
+unfolding serde_json_on_literals
+taken_back = refl
+
+made_again : text_of_reply (Redo) ≡ codes "{\"ok\":\"redo\"}"
+unfolding serde_json_on_literals
+made_again = refl
+
+-- ---- refusals
+
+name_bad : text_of_reply (Refused refusal.NameBad) ≡ codes "{\"refused\":\"NameBad\"}"
+unfolding serde_json_on_literals
+name_bad = refl
+
+name_taken : text_of_reply (Refused refusal.NameTaken) ≡ codes "{\"refused\":\"NameTaken\"}"
+unfolding serde_json_on_literals
+name_taken = refl
+
+dim_differs : text_of_reply (Refused refusal.DimDiffers) ≡ codes "{\"refused\":\"DimDiffers\"}"
+unfolding serde_json_on_literals
+dim_differs = refl
+
+not_parallel : text_of_reply (Refused refusal.NotParallel) ≡ codes "{\"refused\":\"NotParallel\"}"
+unfolding serde_json_on_literals
+not_parallel = refl
+
+dim_limit : text_of_reply (Refused refusal.DimLimit) ≡ codes "{\"refused\":\"DimLimit\"}"
+unfolding serde_json_on_literals
+dim_limit = refl
+
+count_limit : text_of_reply (Refused refusal.CountLimit) ≡ codes "{\"refused\":\"CountLimit\"}"
+unfolding serde_json_on_literals
+count_limit = refl
+
+nothing_to_undo : text_of_reply (Refused refusal.NothingToUndo) ≡ codes "{\"refused\":\"NothingToUndo\"}"
+unfolding serde_json_on_literals
+nothing_to_undo = refl
+
+nothing_to_redo : text_of_reply (Refused refusal.NothingToRedo) ≡ codes "{\"refused\":\"NothingToRedo\"}"
+unfolding serde_json_on_literals
+nothing_to_redo = refl
+
+-- ---- the four kinds of faults
+
+bad_square : text_of_reply (Refused (refusal.IllTyped (place_fault.SquareAt (record { steps = step.F 0 ∷ []; end = at_end.Square 1 }))))
+    ≡ codes "{\"at\":\"f0 q1\",\"fault\":\"square\",\"refused\":\"IllTyped\"}"
+unfolding digits serde_json_on_literals
+bad_square = refl
+
+loose_leg : text_of_reply (Refused (refusal.IllTyped (place_fault.LooseAt (step.S 2 ∷ step.B 10 ∷ []))))
+    ≡ codes "{\"at\":\"s2 b10\",\"fault\":\"loose\",\"refused\":\"IllTyped\"}"
+unfolding digits serde_json_on_literals
+loose_leg = refl
+
+no_label : text_of_reply (Refused (refusal.IllTyped (place_fault.LabelAt (height.R 0 ∷ height.S 1 ∷ height.R 12 ∷ []))))
+    ≡ codes "{\"at\":\"r0 s1 r12\",\"fault\":\"label\",\"refused\":\"IllTyped\"}"
+unfolding digits serde_json_on_literals
+no_label = refl
+
+no_type : text_of_reply (Refused (refusal.IllTyped (place_fault.TypeAt (height.S 0 ∷ height.S 0 ∷ []))))
+    ≡ codes "{\"at\":\"s0 s0\",\"fault\":\"type\",\"refused\":\"IllTyped\"}"
+unfolding digits serde_json_on_literals
+no_type = refl
+
+-- the one point of a diagram of dimension 0 has no heights
+no_type_of_a_point : text_of_reply (Refused (refusal.IllTyped (place_fault.TypeAt [])))
+    ≡ codes "{\"at\":\"\",\"fault\":\"type\",\"refused\":\"IllTyped\"}"
+unfolding digits serde_json_on_literals
+no_type_of_a_point = refl
+
+-- ---- form faults
 
 not_json : text_of_fault fault.NotJson ≡ codes "{\"refused\":\"NotJson\"}"
 unfolding serde_json_on_literals

@@ -1,44 +1,92 @@
 -- The text of each reply and each form fault: the compact text of a JSON value, whose keys stand in the order of
 -- their bytes.
 use Rattle.std.specs.Prelude.{ℕ, List, codes, Some, None}
-use Rattle.serde_json.specs.Data.{Data, string, object, no_members, member}
+use Rattle.serde_json.specs.Data.{Data, boolean, string, object, no_members, member}
 use Rattle.serde_json.specs.Written.{compact_text}
 use Rattle.workspace_json.specs.declared.reply.Reply.{Reply}
-use Rattle.workspace_json.specs.declared.reply.Reply.TheVariants.{Look, Slice, Refused}
+use Rattle.workspace_json.specs.declared.reply.Reply.TheVariants as reply
+use Rattle.workspace_json.specs.declared.reply.Word.{Word}
+use Rattle.workspace_json.specs.declared.reply.Word.TheVariants as words
 use Rattle.workspace_json.specs.declared.refusal.Refusal.{Refusal}
-use Rattle.workspace_json.specs.declared.refusal.Refusal.TheVariants.{Unknown, NoHeight}
+use Rattle.workspace_json.specs.declared.refusal.Refusal.TheVariants as refusal
 use Rattle.node_json.specs.declared.fault.Field.{Field}
 use Rattle.node_json.specs.declared.fault.Field.TheVariants as field
 use Rattle.node_json.specs.declared.fault.FormFault.{FormFault}
 use Rattle.node_json.specs.declared.fault.FormFault.TheVariants as fault
-use Rattle.workspace_json.specs.Places.{place_text}
-use Rattle.node_json.specs.Printing.{whole, nodes_data}
+use Rattle.workspace_json.specs.Places.{place_text, fault_place, fault_word}
+use Rattle.node_json.specs.Printing.{whole, nodes_data, document_data}
 
 -- one of the words of the format
 abbrev pub word : List ℕ → Data
 word w = string w
 
--- `{"name":s,"refused":"Unknown"}`, or `{"refused":"NoHeight","step":n}`
-abbrev pub refusal_data : Refusal → Data
-refusal_data (Unknown name) =
-    object (member (codes "name") (string name) (member (codes "refused") (word (codes "Unknown")) no_members))
-refusal_data (NoHeight step) =
-    object (member (codes "refused") (word (codes "NoHeight")) (member (codes "step") (whole step) no_members))
+-- a word alone: `{"refused":W}` or `{"ok":W}`
+abbrev pub alone : List ℕ → List ℕ → Data
+alone key w = object (member key (word w) no_members)
 
--- `{"dim":d,"length":n,"name":s,"ok":"look"}`, or `{"at":P,"dim":d,"length":n,"name":s,"no":"look"}`,
--- `{"nodes":[..],"ok":"slice","root":k}`, or a refusal
+-- `{"name":s,"refused":"Unknown"}`, `{"refused":"NoHeight","step":n}`, `{"at":P,"fault":F,"refused":"IllTyped"}`, and else
+-- the name of the refusal alone
+abbrev pub refusal_data : Refusal → Data
+refusal_data refusal.NameBad = alone (codes "refused") (codes "NameBad")
+refusal_data refusal.NameTaken = alone (codes "refused") (codes "NameTaken")
+refusal_data (refusal.Unknown name) =
+    object (member (codes "name") (string name) (member (codes "refused") (word (codes "Unknown")) no_members))
+refusal_data refusal.DimDiffers = alone (codes "refused") (codes "DimDiffers")
+refusal_data refusal.NotParallel = alone (codes "refused") (codes "NotParallel")
+refusal_data refusal.DimLimit = alone (codes "refused") (codes "DimLimit")
+refusal_data refusal.CountLimit = alone (codes "refused") (codes "CountLimit")
+refusal_data (refusal.NoHeight step) =
+    object (member (codes "refused") (word (codes "NoHeight")) (member (codes "step") (whole step) no_members))
+refusal_data (refusal.IllTyped fault) =
+    object (member (codes "at") (string (fault_place fault)) (member (codes "fault") (word (fault_word fault))
+    (member (codes "refused") (word (codes "IllTyped")) no_members)))
+refusal_data refusal.NothingToUndo = alone (codes "refused") (codes "NothingToUndo")
+refusal_data refusal.NothingToRedo = alone (codes "refused") (codes "NothingToRedo")
+
+-- the word of a command
+abbrev pub command_word : Word → List ℕ
+command_word words.Identity = codes "identity"
+command_word words.Boundary = codes "boundary"
+command_word words.Drop = codes "drop"
+
+-- One object for each reply. A diagram that `look` found to be invalid has its first fault, and `no` in the place of `ok`.
 abbrev pub reply_data : Reply → Data
-reply_data (Look dim length name None) =
+reply_data (reply.Look dim length name None) =
     object (member (codes "dim") (whole dim) (member (codes "length") (whole length)
     (member (codes "name") (string name) (member (codes "ok") (word (codes "look")) no_members))))
-reply_data (Look dim length name (Some p)) =
+reply_data (reply.Look dim length name (Some p)) =
     object (member (codes "at") (string (place_text p)) (member (codes "dim") (whole dim)
     (member (codes "length") (whole length) (member (codes "name") (string name)
     (member (codes "no") (word (codes "look")) no_members)))))
-reply_data (Slice nodes root) =
+-- `{"dim":d,"name":s,"number":n,"ok":"generator"}`
+reply_data (reply.Generator dim name number) =
+    object (member (codes "dim") (whole dim) (member (codes "name") (string name)
+    (member (codes "number") (whole number) (member (codes "ok") (word (codes "generator")) no_members))))
+-- `{"dim":d,"length":n,"name":s,"ok":W}`
+reply_data (reply.Stored dim length name w) =
+    object (member (codes "dim") (whole dim) (member (codes "length") (whole length)
+    (member (codes "name") (string name) (member (codes "ok") (word (command_word w)) no_members))))
+-- `{"name":s,"ok":W}`
+reply_data (reply.Named name w) =
+    object (member (codes "name") (string name) (member (codes "ok") (word (command_word w)) no_members))
+-- `{"nodes":[..],"ok":"slice","root":k}`
+reply_data (reply.Slice nodes root) =
     object (member (codes "nodes") (nodes_data nodes) (member (codes "ok") (word (codes "slice"))
     (member (codes "root") (whole root) no_members)))
-reply_data (Refused refusal) = refusal_data refusal
+-- `{"ok":"equal","value":true}`, or `false`
+reply_data (reply.Equal value) =
+    object (member (codes "ok") (word (codes "equal")) (member (codes "value") (boolean value) no_members))
+-- `{"arrows":n,"diagrams":n,"generators":n,"maps":n,"named":n,"ok":"stats"}`
+reply_data (reply.Stats arrows diagrams generators maps named) =
+    object (member (codes "arrows") (whole arrows) (member (codes "diagrams") (whole diagrams)
+    (member (codes "generators") (whole generators) (member (codes "maps") (whole maps)
+    (member (codes "named") (whole named) (member (codes "ok") (word (codes "stats")) no_members))))))
+-- `{"document":{..},"ok":"save"}`
+reply_data (reply.Save document) =
+    object (member (codes "document") (document_data document) (member (codes "ok") (word (codes "save")) no_members))
+reply_data reply.Undo = alone (codes "ok") (codes "undo")
+reply_data reply.Redo = alone (codes "ok") (codes "redo")
+reply_data (reply.Refused r) = refusal_data r
 
 -- the line of a reply
 abbrev pub text_of_reply : Reply → List ℕ

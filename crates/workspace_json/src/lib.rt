@@ -14,12 +14,12 @@ pub use command::Command;
 pub use commands::read_command;
 pub use node_json::{
     DiagramEntry, Document, Field, FormFault, GeneratorEntry, MapEntry, document_text,
-    documents_are_read_back, read_document,
+    documents_are_read_back, is_good_name, read_document,
 };
 pub use path_laws::paths_are_told_by_their_text;
 pub use paths::{height_of, is_path, path_of};
 pub use refusal::Refusal;
-pub use reply::Reply;
+pub use reply::{Reply, Word};
 pub use writing::{form_text, reply_text};
 
 #[cfg(test)]

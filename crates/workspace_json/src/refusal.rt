@@ -1,10 +1,28 @@
-use diagram_terms::Text;
+use diagram_terms::{Fault, Text};
 
-/// Why a question about a document has no answer.
+/// Why a command or a question has no effect and no answer.
 #[derive(Debug, Drop)]
 pub enum Refusal {
+    /// The name is no good name: it has no byte or more than 64, or a byte that no name has.
+    NameBad,
+    /// The name stands for something already.
+    NameTaken,
     /// The name names nothing of the wanted kind.
     Unknown { name: Text },
+    /// The source and the target of a generator have different dimensions.
+    DimDiffers,
+    /// The source and the target of a generator have not one source and one target.
+    NotParallel,
+    /// The dimension would be above 6.
+    DimLimit,
+    /// There are 60,000 generators.
+    CountLimit,
     /// The step of the path, counted from 0, names no height of its slice.
     NoHeight { step: usize },
+    /// A diagram is not well typed over the generators: its first fault.
+    IllTyped(Fault),
+    /// No change is left to be undone.
+    NothingToUndo,
+    /// No undone change is left to be made again.
+    NothingToRedo,
 }

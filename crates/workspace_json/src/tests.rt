@@ -1,7 +1,8 @@
 use crate::{
-    Command, Field, FormFault, Refusal, Reply, form_text, path_of, read_command, reply_text,
+    Command, Document, Field, FormFault, GeneratorEntry, Refusal, Reply, Word, form_text, path_of,
+    read_command, reply_text,
 };
-use diagram_terms::{End, Height, Items, Label, Node, Place, Step, Text};
+use diagram_terms::{End, Fault, Height, Items, Label, Node, Place, Step, Text};
 use std::alloc::Global;
 use std::test::Fail;
 
@@ -72,6 +73,138 @@ fn writes_answers(rt: HostRuntime) -> Result<(), Fail> {
     assert!(rt; text.as_slice() == b"{\"name\":\"a\\\"\",\"refused\":\"Unknown\"}".as_slice());
     let text = reply_text(alloc, &Reply::Refused(Refusal::NoHeight { step: 2 }))?;
     assert!(rt; text.as_slice() == b"{\"refused\":\"NoHeight\",\"step\":2}".as_slice());
+    Ok(())
+}
+
+fn named(alloc: Global, name: &str) -> Result<Text, Fail> {
+    Ok(Text::from_string(String::from_str(alloc, name)?))
+}
+
+/// The line of the reply is this one.
+fn is_written(alloc: Global, reply: Reply, want: &str) -> Result<bool, Fail> {
+    Ok(reply_text(alloc, &reply)?.as_slice() == want.as_bytes())
+}
+
+#[test]
+fn writes_changes(rt: HostRuntime) -> Result<(), Fail> {
+    let alloc = rt.alloc();
+    let generator = Reply::Generator {
+        dim: 1,
+        name: named(alloc, "f")?,
+        number: 4_294_967_295,
+    };
+    let want = "{\"dim\":1,\"name\":\"f\",\"number\":4294967295,\"ok\":\"generator\"}";
+    assert!(rt; is_written(alloc, generator, want)?);
+    let identity = Reply::Stored {
+        dim: 1,
+        length: 0,
+        name: named(alloc, "ix")?,
+        word: Word::Identity,
+    };
+    let want = "{\"dim\":1,\"length\":0,\"name\":\"ix\",\"ok\":\"identity\"}";
+    assert!(rt; is_written(alloc, identity, want)?);
+    let boundary = Reply::Stored {
+        dim: 0,
+        length: 2,
+        name: named(alloc, "b")?,
+        word: Word::Boundary,
+    };
+    let want = "{\"dim\":0,\"length\":2,\"name\":\"b\",\"ok\":\"boundary\"}";
+    assert!(rt; is_written(alloc, boundary, want)?);
+    let dropped = Reply::Named {
+        name: named(alloc, "s")?,
+        word: Word::Drop,
+    };
+    assert!(rt; is_written(alloc, dropped, "{\"name\":\"s\",\"ok\":\"drop\"}")?);
+    assert!(rt; is_written(alloc, Reply::Undo, "{\"ok\":\"undo\"}")?);
+    assert!(rt; is_written(alloc, Reply::Redo, "{\"ok\":\"redo\"}")?);
+    Ok(())
+}
+
+#[test]
+fn writes_what_a_session_holds(rt: HostRuntime) -> Result<(), Fail> {
+    let alloc = rt.alloc();
+    let want = "{\"ok\":\"equal\",\"value\":true}";
+    assert!(rt; is_written(alloc, Reply::Equal { value: true }, want)?);
+    let want = "{\"ok\":\"equal\",\"value\":false}";
+    assert!(rt; is_written(alloc, Reply::Equal { value: false }, want)?);
+    let stats = Reply::Stats {
+        arrows: 1,
+        diagrams: 3,
+        generators: 4,
+        maps: 0,
+        named: 2,
+    };
+    let want =
+        "{\"arrows\":1,\"diagrams\":3,\"generators\":4,\"maps\":0,\"named\":2,\"ok\":\"stats\"}";
+    assert!(rt; is_written(alloc, stats, want)?);
+    let mut generators = Items::new(alloc);
+    generators.push(GeneratorEntry {
+        name: named(alloc, "x")?,
+        boundary: None,
+    })?;
+    let document = Document {
+        generators,
+        diagrams: Items::new(alloc),
+        maps: Items::new(alloc),
+        nodes: Items::new(alloc),
+    };
+    let want =
+        "{\"document\":{\"diagrams\":[],\"format\":1,\"generators\":[{\"name\":\"x\"}],\"maps\":[],\"nodes\":[]},\"ok\":\"save\"}";
+    assert!(rt; is_written(alloc, Reply::Save { document }, want)?);
+    Ok(())
+}
+
+fn is_refused(alloc: Global, refusal: Refusal, want: &str) -> Result<bool, Fail> {
+    is_written(alloc, Reply::Refused(refusal), want)
+}
+
+#[test]
+fn writes_refusals(rt: HostRuntime) -> Result<(), Fail> {
+    let alloc = rt.alloc();
+    assert!(rt; is_refused(alloc, Refusal::NameBad, "{\"refused\":\"NameBad\"}")?);
+    assert!(rt; is_refused(alloc, Refusal::NameTaken, "{\"refused\":\"NameTaken\"}")?);
+    let name = named(alloc, "z")?;
+    let want = "{\"name\":\"z\",\"refused\":\"Unknown\"}";
+    assert!(rt; is_refused(alloc, Refusal::Unknown { name }, want)?);
+    assert!(rt; is_refused(alloc, Refusal::DimDiffers, "{\"refused\":\"DimDiffers\"}")?);
+    assert!(rt; is_refused(alloc, Refusal::NotParallel, "{\"refused\":\"NotParallel\"}")?);
+    assert!(rt; is_refused(alloc, Refusal::DimLimit, "{\"refused\":\"DimLimit\"}")?);
+    assert!(rt; is_refused(alloc, Refusal::CountLimit, "{\"refused\":\"CountLimit\"}")?);
+    let want = "{\"refused\":\"NoHeight\",\"step\":0}";
+    assert!(rt; is_refused(alloc, Refusal::NoHeight { step: 0 }, want)?);
+    let want = "{\"refused\":\"NothingToUndo\"}";
+    assert!(rt; is_refused(alloc, Refusal::NothingToUndo, want)?);
+    let want = "{\"refused\":\"NothingToRedo\"}";
+    assert!(rt; is_refused(alloc, Refusal::NothingToRedo, want)?);
+    Ok(())
+}
+
+#[test]
+fn writes_faults(rt: HostRuntime) -> Result<(), Fail> {
+    let alloc = rt.alloc();
+    let place = Place {
+        steps: Items::from_slice(alloc, &[Step::F(0)])?,
+        end: End::Ends,
+    };
+    let square = Refusal::IllTyped(Fault::SquareAt(place));
+    let want = "{\"at\":\"f0 ends\",\"fault\":\"square\",\"refused\":\"IllTyped\"}";
+    assert!(rt; is_refused(alloc, square, want)?);
+    let leg = Items::from_slice(alloc, &[Step::S(2), Step::B(10)])?;
+    let loose = Refusal::IllTyped(Fault::LooseAt(leg));
+    let want = "{\"at\":\"s2 b10\",\"fault\":\"loose\",\"refused\":\"IllTyped\"}";
+    assert!(rt; is_refused(alloc, loose, want)?);
+    let three = Items::from_slice(alloc, &[Height::R(0), Height::S(1), Height::R(12)])?;
+    let label = Refusal::IllTyped(Fault::LabelAt(three));
+    let want = "{\"at\":\"r0 s1 r12\",\"fault\":\"label\",\"refused\":\"IllTyped\"}";
+    assert!(rt; is_refused(alloc, label, want)?);
+    let two = Items::from_slice(alloc, &[Height::S(0), Height::S(0)])?;
+    let of_two = Refusal::IllTyped(Fault::TypeAt(two));
+    let want = "{\"at\":\"s0 s0\",\"fault\":\"type\",\"refused\":\"IllTyped\"}";
+    assert!(rt; is_refused(alloc, of_two, want)?);
+    let of_none = Refusal::IllTyped(Fault::TypeAt(Items::new(alloc)));
+    let want = "{\"at\":\"\",\"fault\":\"type\",\"refused\":\"IllTyped\"}";
+    assert!(rt; is_refused(alloc, of_none, want)?);
     Ok(())
 }
 

@@ -1,12 +1,12 @@
-ghost use Rattle.std.specs.Prelude.{◌≡◌, ◌≢◌, IfOk};
+ghost use Rattle.std.specs.Prelude.{◌≡◌, ◌≢◌, IfOk, codes};
 ghost use Rattle.serde_json.specs.View.{view};
-ghost use Rattle.workspace_json.specs.Replies.{reply_data, refusal_data, text_of_reply, fault_data, text_of_fault, word_of};
+ghost use Rattle.workspace_json.specs.Replies.{alone, command_word, reply_data, refusal_data, text_of_reply, fault_data, text_of_fault, word_of};
 
 use crate::refusal::Refusal;
-use crate::reply::Reply;
-use crate::texts::place_text;
-use diagram_terms::{Node, Place, Text};
-use node_json::{Field, FormFault, nodes_value};
+use crate::reply::{Reply, Word};
+use crate::texts::{fault_place, fault_word, place_text};
+use diagram_terms::{Fault, Node, Place, Text};
+use node_json::{Field, FormFault, document_value, nodes_value};
 use serde_json::{Value, json};
 use std::alloc::{AllocError, Global};
 
@@ -42,14 +42,94 @@ fn slice_value(alloc: Global, nodes: &[Node], root: usize) -> Result<Value, Allo
     })
 }
 
+/// `{"refused":W}`.
+fn refused_value(alloc: Global, word: &str) -> Result<Value, AllocError>
+    ensures { IfOk result (λ value. view value ≡ alone (codes "refused") word.now) }
+{
+    json!(in alloc; {"refused": word})
+}
+
+/// `{"ok":W}`.
+fn done_value(alloc: Global, word: &str) -> Result<Value, AllocError>
+    ensures { IfOk result (λ value. view value ≡ alone (codes "ok") word.now) }
+{
+    json!(in alloc; {"ok": word})
+}
+
+fn ill_typed_value(alloc: Global, fault: &Fault) -> Result<Value, AllocError>
+    ensures { IfOk result (λ value. view value ≡ refusal_data (Refusal.IllTyped fault.now)) }
+{
+    let at = fault_place(alloc, fault)?;
+    json!(in alloc; {"at": at.as_str(), "fault": fault_word(fault), "refused": "IllTyped"})
+}
+
 fn refusal_value(alloc: Global, refusal: &Refusal) -> Result<Value, AllocError>
     ensures { IfOk result (λ value. view value ≡ refusal_data refusal.now) }
 {
     match refusal {
+        Refusal::NameBad => refused_value(alloc, "NameBad"),
+        Refusal::NameTaken => refused_value(alloc, "NameTaken"),
         Refusal::Unknown { name } => json!(in alloc; {"name": name.as_str(), "refused": "Unknown"}),
+        Refusal::DimDiffers => refused_value(alloc, "DimDiffers"),
+        Refusal::NotParallel => refused_value(alloc, "NotParallel"),
+        Refusal::DimLimit => refused_value(alloc, "DimLimit"),
+        Refusal::CountLimit => refused_value(alloc, "CountLimit"),
         Refusal::NoHeight { step } =>
             json!(in alloc; {"refused": "NoHeight", "step": *step as u64}),
+        Refusal::IllTyped(fault) => ill_typed_value(alloc, fault),
+        Refusal::NothingToUndo => refused_value(alloc, "NothingToUndo"),
+        Refusal::NothingToRedo => refused_value(alloc, "NothingToRedo"),
     }
+}
+
+/// The word of a command, as its reply has it.
+fn command_word(word: Word) -> &'static str
+    ensures { result.now ≡ command_word word }
+{
+    match word {
+        Word::Identity => "identity",
+        Word::Boundary => "boundary",
+        Word::Drop => "drop",
+    }
+}
+
+fn generator_value(alloc: Global, dim: u8, name: &Text, number: u32) -> Result<Value, AllocError>
+    ensures { IfOk result (λ value. view value ≡ reply_data (Reply.Generator dim name.now number)) }
+{
+    json!(in alloc; {
+        "dim": dim as u64, "name": name.as_str(), "number": number as u64, "ok": "generator"
+    })
+}
+
+fn stored_value(
+    alloc: Global,
+    dim: u8,
+    length: usize,
+    name: &Text,
+    word: Word,
+) -> Result<Value, AllocError>
+    ensures { IfOk result (λ value. view value ≡ reply_data (Reply.Stored dim length name.now word)) }
+{
+    json!(in alloc; {
+        "dim": dim as u64, "length": length as u64, "name": name.as_str(), "ok": command_word(word)
+    })
+}
+
+fn stats_value(
+    alloc: Global,
+    arrows: usize,
+    diagrams: usize,
+    generators: usize,
+    maps: usize,
+    named: usize,
+) -> Result<Value, AllocError>
+    ensures { IfOk result (λ value. view value
+        ≡ reply_data (Reply.Stats arrows diagrams generators maps named)) }
+{
+    json!(in alloc; {
+        "arrows": arrows as u64, "diagrams": diagrams as u64, "generators": generators as u64,
+        "maps": maps as u64, "named": named as u64, "ok": "stats"
+    })
 }
 
 fn reply_value(alloc: Global, reply: &Reply) -> Result<Value, AllocError>
@@ -62,7 +142,28 @@ fn reply_value(alloc: Global, reply: &Reply) -> Result<Value, AllocError>
             name,
             at,
         } => look_value(alloc, *dim, *length, name, at),
+        Reply::Generator { dim, name, number } => generator_value(alloc, *dim, name, *number),
+        Reply::Stored {
+            dim,
+            length,
+            name,
+            word,
+        } => stored_value(alloc, *dim, *length, name, *word),
+        Reply::Named { name, word } =>
+            json!(in alloc; {"name": name.as_str(), "ok": command_word(*word)}),
         Reply::Slice { nodes, root } => slice_value(alloc, nodes.as_slice(), *root),
+        Reply::Equal { value } => json!(in alloc; {"ok": "equal", "value": *value}),
+        Reply::Stats {
+            arrows,
+            diagrams,
+            generators,
+            maps,
+            named,
+        } => stats_value(alloc, *arrows, *diagrams, *generators, *maps, *named),
+        Reply::Save { document } =>
+            json!(in alloc; {"document": document_value(alloc, document)?, "ok": "save"}),
+        Reply::Undo => done_value(alloc, "undo"),
+        Reply::Redo => done_value(alloc, "redo"),
         Reply::Refused(refusal) => refusal_value(alloc, refusal),
     }
 }

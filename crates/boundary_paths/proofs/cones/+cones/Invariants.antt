@@ -3,7 +3,7 @@ use Rattle.diagram_terms.specs.Shape.{sing_at}
 use Rattle.hashcons.specs.Contents.{Grows, IsStore, diagram_at}
 use Rattle.hashcons.specs.Gathers.{Gathers}
 use Rattle.boundary_paths.specs.Keeps.{AreRight}
-use Rattle.boundary_paths.specs.Trees.{cone_tree}
+use Rattle.diagram_terms.specs.ConeTrees.{cone_tree}
 use Rattle.boundary_paths.proofs.cones.+cones.Given as goal
 
 abbrev pub decreases-cospan_of_cones : goal.decreases-cospan_of_cones

@@ -1,14 +1,16 @@
-use Rattle.std.proofs.Common.{◌≡◌, ◌≤◌, ◌<◌, ◌∙◌, List, length, get_or, refl, sym, ap, subst, true≢false, arith}
+use Rattle.std.proofs.Common.{◌≡◌, ◌≤◌, ◌<◌, ◌+◌, ◌∙◌, List, [], ◌∷◌, length, get_or, drop, Err, refl, sym, ap, subst, true≢false, arith}
+use Rattle.std.proofs.lemmas.Result.{err_from_is_err_and}
 use Rattle.diagram_terms.specs.declared.node.Node.{Node}
 use Rattle.diagram_terms.specs.Nodes.{tree_at}
 use Rattle.hashcons.specs.Ids.{GathersIds}
 use Rattle.hashcons.proofs.FillLemmas.{ids-grow}
 use Rattle.node_json.specs.declared.document.DiagramEntry.{DiagramEntry}
+use Rattle.io_edge.specs.declared.whole.WriteAllFault.TheVariants.{WriteFault}
 use Rattle.io_edge.proofs.Parts.{begun, ended, cut_off, stopped, one_more}
-use Rattle.hom_cli.specs.declared.status.Status.TheVariants as status
-use Rattle.hom_cli.specs.Full.{look_reply}
+use Rattle.io_edge.proofs.Rises.{Rose-within}
+use Rattle.hom_cli.specs.Full.{Answer, is_yes, line, look_reply, replied}
 use Rattle.hom_cli.proofs.Looks.{entry_place, read_kind, entry_of_store, entry_dim, entry_reply}
-use Rattle.hom_cli.proofs.Lines.{entries_status, on_err, prefix_of_run, whole_of_run, next_line, more_status, none_left, all_written, status_is}
+use Rattle.hom_cli.proofs.Lines.{on_err, entry_answers, next_entry, next_lines, more_status, reply_line, reply_good, last_status, all_written}
 use Rattle.hom_cli.proofs.look.write_looks.Goals as goal
 use Rattle.hom_cli.proofs.look.write_looks.Goals.{then-not-is_yes, else-not-is_yes}
 
@@ -60,12 +62,12 @@ looked_at-requires-clause-dim g c =
 pub returns-in_err-reply-clause-err : goal.returns-in_err-reply-clause-err
 returns-in_err-reply-clause-err g c =
     let d = c.args.document.now in
-    on_err _ (prefix_of_run d.nodes d.diagrams _ _ (stopped _ _ _ _ c.loop-entry.invariant.under_way))
+    on_err _ (stopped _ _ _ _ c.loop-entry.invariant.under_way)
 
 pub returns-in_err-reply_text-clause-err : goal.returns-in_err-reply_text-clause-err
 returns-in_err-reply_text-clause-err g c =
     let d = c.args.document.now in
-    on_err _ (prefix_of_run d.nodes d.diagrams _ _ (stopped _ _ _ _ c.loop-entry.invariant.under_way))
+    on_err _ (stopped _ _ _ _ c.loop-entry.invariant.under_way)
 
 pub returns-in_err-write_line-clause-err : goal.returns-in_err-write_line-clause-err
 returns-in_err-write_line-clause-err g c =
@@ -80,8 +82,13 @@ returns-in_err-write_line-clause-err g c =
     let reply_is : c.in_ok-reply.reply ≡ look_reply d.nodes entry =
     entry_reply d.nodes c.requires.nodes c.loop-entry.store c.in_ok-ids.ids.items inv.ids inv.store entry place c.index.result.now _ c.index.ensures c.diagram_of-diagram.ensures
     c.in_ok-reply.reply c.in_ok-reply.ensures.reply in
-    let so_far = next_line d.nodes d.diagrams i entry within is _ _ c.in_ok-reply_text.field-0.items c.in_ok-reply.reply c.in_ok-reply_text.ensures reply_is c.loop-entry.invariant.under_way in
-    on_err _ (prefix_of_run d.nodes d.diagrams _ _ (cut_off _ _ _ _ _ _ c.in_err-write_line.ensures.err so_far))
+    let reply = c.in_ok-reply.reply in
+    let text = c.in_ok-reply_text.field-0.items in
+    let split = next_entry d.nodes d.diagrams i entry within is reply reply_is in
+    let here : List Answer = replied reply ∷ [] in
+    let more = entry_answers d.nodes (drop (i + 1) d.diagrams) in
+    let so_far = next_lines _ here more split _ _ (line text) _ (reply_line text reply c.in_ok-reply_text.ensures) inv.under_way in
+    on_err _ (cut_off _ _ _ _ _ _ c.in_err-write_line.ensures.err so_far)
 
 pub loop-entry-preserved : goal.loop-entry-preserved
 loop-entry-preserved g c =
@@ -96,18 +103,23 @@ loop-entry-preserved g c =
     let reply_is : c.in_ok-reply.reply ≡ look_reply d.nodes entry =
     entry_reply d.nodes c.requires.nodes c.loop-entry.store c.in_ok-ids.ids.items inv.ids inv.store entry place c.index.result.now _ c.index.ensures c.diagram_of-diagram.ensures
     c.in_ok-reply.reply c.in_ok-reply.ensures.reply in
-    let so_far = next_line d.nodes d.diagrams i entry within is _ _ c.in_ok-reply_text.field-0.items c.in_ok-reply.reply c.in_ok-reply_text.ensures reply_is c.loop-entry.invariant.under_way in
+    let reply = c.in_ok-reply.reply in
+    let text = c.in_ok-reply_text.field-0.items in
+    let split = next_entry d.nodes d.diagrams i entry within is reply reply_is in
+    let here : List Answer = replied reply ∷ [] in
+    let more = entry_answers d.nodes (drop (i + 1) d.diagrams) in
+    let so_far = next_lines _ here more split _ _ (line text) _ (reply_line text reply c.in_ok-reply_text.ensures) inv.under_way in
     record {
       under_way = one_more _ _ _ _ _ _ c.in_ok-write_line.ensures.ok so_far;
       status = elim c.if-not-is_yes.branch [
-        | then-not-is_yes w ↦ more_status d.nodes d.diagrams i entry within is c.loop-entry.status c.if-not-is_yes.status _ c.in_ok-reply.reply reply_is
+        | then-not-is_yes w ↦ more_status _ here more split c.loop-entry.status c.if-not-is_yes.status _ (is_yes reply) (reply_good _ reply refl)
             (λ p. absurd (true≢false (sym p ∙ sym c.is_yes.ensures ∙ w.if-not-is_yes.true)))
             (λ p. w.status-is)
-            c.loop-entry.invariant.status
-        | else-not-is_yes w ↦ more_status d.nodes d.diagrams i entry within is c.loop-entry.status c.if-not-is_yes.status _ c.in_ok-reply.reply reply_is
+            inv.status
+        | else-not-is_yes w ↦ more_status _ here more split c.loop-entry.status c.if-not-is_yes.status _ (is_yes reply) (reply_good _ reply refl)
             (λ p. w.status-is)
             (λ p. absurd (true≢false (sym w.if-not-is_yes.false ∙ c.is_yes.ensures ∙ p)))
-            c.loop-entry.invariant.status
+            inv.status
       ];
       later = omega (arith, c.in_ok-write_line.ensures.later);
       ids = ids-grow c.loop-entry.store _ c.in_ok-ids.ids.items (length d.nodes) (tree_at d.nodes) c.in_ok-reply.ensures.grows inv.ids;
@@ -118,10 +130,17 @@ pub returns-clause-ok : goal.returns-clause-ok
 returns-clause-ok g c =
     let d = c.args.document.now in
     let past : length d.diagrams ≤ c.loop-entry.entry-index = omega (arith, ap length c.as_slice-entry-items.ensures) in
-    none_left d.nodes d.diagrams c.loop-entry.entry-index c.loop-entry.status _ past c.loop-entry.invariant.status ∙ sym (status_is d.nodes d.diagrams)
+    last_status (entry_answers d.nodes) d.diagrams c.loop-entry.entry-index past refl c.loop-entry.status _ c.loop-entry.invariant.status
 
 pub returns-clause-wrote : goal.returns-clause-wrote
 returns-clause-wrote g c =
     let d = c.args.document.now in
     let past : length d.diagrams ≤ c.loop-entry.entry-index = omega (arith, ap length c.as_slice-entry-items.ensures) in
-    whole_of_run d.nodes d.diagrams _ _ (ended _ _ _ (all_written d.nodes d.diagrams c.loop-entry.entry-index _ _ past c.loop-entry.invariant.under_way))
+    ended _ _ _ (all_written (entry_answers d.nodes) d.diagrams c.loop-entry.entry-index past refl _ _ _ c.loop-entry.invariant.under_way)
+
+pub returns-in_err-write_line-clause-cause : goal.returns-in_err-write_line-clause-cause
+returns-in_err-write_line-clause-cause g c = λ e.
+    let p = err_from_is_err_and c.from_residual-in_err-write_line.result c.from_residual-in_err-write_line.ensures.1 in
+    let own = rw (p.1, p.2) at e in
+    let same : c.in_err-write_line.field-0.0 ≡ WriteFault = cc own in
+    Rose-within _ _ _ _ c.loop-entry.invariant.later c.in_err-write_line.ensures.later (c.in_err-write_line.ensures.cause (ap Err same)) (omega arith)

@@ -4,7 +4,7 @@ use Rattle.diagram_terms.specs.Nodes.{tree_at}
 use Rattle.hashcons.specs.Contents.{IsStore}
 use Rattle.hashcons.specs.Ids.{GathersIds}
 use Rattle.hom_cli.specs.declared.status.Status.TheVariants as status
-use Rattle.hom_cli.proofs.Lines.{entries_text, entries_status}
+use Rattle.hom_cli.proofs.Lines.{answers_text, answers_status, entry_answers}
 use Rattle.hom_cli.proofs.look.write_looks.Given as goal
 
 -- The lines of the entries that were passed stand written, and the rest of the entries make of the status that of all.
@@ -12,8 +12,8 @@ use Rattle.hom_cli.proofs.look.write_looks.Given as goal
 abbrev pub invariant-loop-entry : goal.invariant-loop-entry
 invariant-loop-entry g l = record {
   under_way : IsUnderWay (g.K.Sink.written l.fn.output) (g.K.Sink.written l.output)
-      (entries_text l.document.nodes (drop l.entry-index l.document.diagrams)) (entries_text l.document.nodes l.document.diagrams);
-  status : entries_status l.document.nodes l.status (drop l.entry-index l.document.diagrams) ≡ entries_status l.document.nodes status.Done l.document.diagrams;
+      (answers_text (entry_answers l.document.nodes (drop l.entry-index l.document.diagrams))) (answers_text (entry_answers l.document.nodes l.document.diagrams));
+  status : answers_status l.status (entry_answers l.document.nodes (drop l.entry-index l.document.diagrams)) ≡ answers_status status.Done (entry_answers l.document.nodes l.document.diagrams);
   later : g.K.Sink.faults l.fn.output ≤ g.K.Sink.faults l.output;
   ids : GathersIds l.store l.ids.items (length l.document.nodes) (tree_at l.document.nodes);
   store : IsStore l.store;

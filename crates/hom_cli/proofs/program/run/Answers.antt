@@ -1,40 +1,27 @@
-use Rattle.std.proofs.Common.{[], ◌≡◌, ◌≤◌, ◌<◌, ◌∙◌, ap, length, sym, arith, rules}
-use Rattle.std.specs.Prelude.{option_and_then}
-use Rattle.std.proofs.KnownBytes.{Keeps-refl}
-use Rattle.io_edge.proofs.Inputs.{whole_input, input_from, input_from_is, longer}
-use Rattle.io_edge.proofs.Parts.{not_begun}
+use Rattle.std.proofs.Common.{[], ◌≡◌, ◌∙◌, Some, ap}
+use Rattle.std.specs.Prelude.{map, option_and_then, string_bytes}
+use Rattle.io_edge.proofs.Inputs.{input_from, input_from_is}
+use Rattle.hom_cli.specs.declared.words.Asked.TheVariants as asked
+use Rattle.hom_cli.specs.Full.{mode_of, replays}
 use Rattle.hom_cli.specs.Modes.{mode_in}
-use Rattle.hom_cli.proofs.Runs.{there, writes_usage, writes_too_long, writes_answer}
+use Rattle.hom_cli.proofs.Runs.{writes_mode, writes_usage}
 use Rattle.hom_cli.proofs.program.run.Goals as goal
 
-pub returns-in_default-clause-writes : goal.returns-in_default-clause-writes
-returns-in_default-clause-writes g c =
+pub returns-in-Some-Document-clause-writes : goal.returns-in-Some-Document-clause-writes
+returns-in-Some-Document-clause-writes g c =
+    let mode : mode_of (map string_bytes c.args.words.now) ≡ mode_in (asked.Document c.in-Some-Document.query) =
+    rw c.in-Some-Document.field-0-is at c.in-Some-Document.ensures.mode in
+    let wrote = c.ask.ensures.writes in
+    (wrote.0, wrote.1, writes_mode _ _ mode wrote.0 _ _ _ wrote.2)
+
+pub returns-in-Some-Replay-clause-writes : goal.returns-in-Some-Replay-clause-writes
+returns-in-Some-Replay-clause-writes g c =
+    let mode : mode_of (map string_bytes c.args.words.now) ≡ Some replays = rw c.in-Some-Replay.field-0-is at c.in-Some-Replay.ensures.mode in
+    let wrote = c.replay.ensures.writes in
+    (wrote.0, wrote.1, writes_mode _ _ mode wrote.0 _ _ _ wrote.2)
+
+pub returns-in-None-clause-writes : goal.returns-in-None-clause-writes
+returns-in-None-clause-writes g c =
     let left = g.S.Source.left c.args.input.now in
-    let nothing = c.asked_of.ensures.mode ∙ ap (option_and_then mode_in) c.in_default.is in
+    let nothing = c.asked_of.ensures.mode ∙ ap (option_and_then mode_in) c.in-None.is in
     (input_from left [], input_from_is left [], writes_usage _ _ _ nothing)
-
-pub returns-in-Ok-clause-writes : goal.returns-in-Ok-clause-writes
-returns-in-Ok-clause-writes g c =
-    let takes = c.in-Ok.ensures.bytes in
-    let mode = there (mode_in c.in-Some.asked) c.in-Some.ensures.form in (
-      takes.taken,
-      whole_input _ _ takes.taken takes.consumed takes.whole.1,
-      writes_answer _ mode.0 (c.in-Some.ensures.mode ∙ mode.1) _ takes.taken _ _ _ _ mode.1 (takes.within (λ e. cc)) (c.deref.ensures.value ∙ takes.whole.0) c.answer.ensures.writes,
-    )
-
-pub returns-in-Err-ReadFault-clause-writes : goal.returns-in-Err-ReadFault-clause-writes
-returns-in-Err-ReadFault-clause-writes g c =
-    let left = g.S.Source.left c.args.input.now in
-    (input_from left [], input_from_is left [], Keeps-refl _)
-
-pub returns-in-Err-TooLong-clause-writes : goal.returns-in-Err-TooLong-clause-writes
-returns-in-Err-TooLong-clause-writes g c =
-    let left = g.S.Source.left c.args.input.now in
-    let takes = c.in-Err-TooLong.ensures.bytes in
-    let mode = there (mode_in c.in-Some.asked) c.in-Some.ensures.form in
-    (input_from left takes.taken, input_from_is left takes.taken, writes_too_long _ mode.0 (c.in-Some.ensures.mode ∙ mode.1) _ _ (longer _ _ takes.taken _ takes.consumed (takes.too_long (search rules))))
-
-pub returns-in-Err-NoMemory-clause-writes : goal.returns-in-Err-NoMemory-clause-writes
-returns-in-Err-NoMemory-clause-writes g c =
-    let left = g.S.Source.left c.args.input.now in
-    (input_from left [], input_from_is left [], not_begun _ _)

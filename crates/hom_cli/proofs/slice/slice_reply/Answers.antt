@@ -1,9 +1,8 @@
-use Rattle.std.proofs.Common.{◌≡◌, ◌∙◌, ℕ, List, length, Ok, Err, IfOk, subst, sym, ap, refl, rules}
+use Rattle.std.proofs.Common.{List, length, Ok, Err, subst, rules}
 use Rattle.diagram_terms.specs.declared.node.Node.{Node}
 use Rattle.diagram_terms.specs.Nodes.{tree_at}
 use Rattle.hashcons.specs.Ids.{GathersIds}
 use Rattle.node_json.specs.declared.document.DiagramEntry.{DiagramEntry}
-use Rattle.workspace_json.specs.declared.reply.Reply.{Reply}
 use Rattle.hom_cli.proofs.Looks.{place_within, read_kind, entry_of_store, entry_tree}
 use Rattle.hom_cli.proofs.SliceReplies.{root_place, slice_of, as_said}
 use Rattle.hom_cli.proofs.slice.slice_reply.Goals as goal

@@ -1,4 +1,3 @@
-use Rattle.std.proofs.Common.{◌≡◌, ◌∙◌, sym}
 use Rattle.io_edge.proofs.Parts.{not_begun}
 use Rattle.hom_cli.proofs.Lines.{on_err}
 use Rattle.hom_cli.proofs.slice.write_slice.Goals as goal

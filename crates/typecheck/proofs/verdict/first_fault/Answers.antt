@@ -5,7 +5,8 @@ use Rattle.diagram_terms.specs.Typing.{Generator}
 use Rattle.hashcons.specs.Contents.{diagram_at}
 use Rattle.plain_maps.specs.Plainness.{loose_leg}
 use Rattle.zigzag_maps.specs.Visits.{fault_of}
-use Rattle.typecheck.specs.Points.{HaveDims, first_point_fault_in, first_fault_in}
+use Rattle.diagram_terms.specs.Typing.{first_point_fault_in, first_fault_in}
+use Rattle.typecheck.specs.Points.{HaveDims}
 use Rattle.typecheck.proofs.FaultSteps.{leg_is_first, points_decide}
 use Rattle.typecheck.proofs.verdict.first_fault.Goals as goal
 

@@ -1,0 +1,15 @@
+pub mod EditLemmas
+pub mod NameLemmas
+pub mod MeaningLemmas
+pub mod HistoryLemmas
+pub mod StateLemmas
+pub mod GrowthLemmas
+pub mod StateGrowth
+pub mod TreeLengths
+pub mod RuleLemmas
+pub mod ChangeLemmas
+pub mod CommandLemmas
+pub mod LowTerms
+pub mod DropLemmas
+pub mod GeneratorLemmas
+pub mod SessionLemmas

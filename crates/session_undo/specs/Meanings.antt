@@ -1,0 +1,46 @@
+-- What the names of a workspace stand for, and that a table says so.
+use Rattle.std.specs.Prelude.{◌≡◌, ℕ, List, false, bytes_eq, Option, Some, None}
+use Rattle.diagram_terms.specs.Tree.{Tree}
+use Rattle.hashcons.specs.Contents.{Contents, IsDiagramOf, diagram_at}
+use Rattle.workspace_json.specs.Workspaces.{Workspace, diagram_named, type_named}
+use Rattle.workspace_lists.specs.declared.names.Meaning.{Meaning}
+use Rattle.workspace_lists.specs.declared.names.Meaning.TheVariants as meaning
+use Rattle.workspace_lists.specs.declared.names.Names.{Names}
+use Rattle.workspace_lists.specs.Names.{meaning_in}
+
+-- nothing, a generator by its type, or a stored diagram
+pub data Stands : Type 0 where
+  free : Stands
+  generator : Tree → Stands
+  diagram : Tree → Stands
+
+abbrev pub stands_by : Option Tree → Option Tree → Stands
+stands_by (Some t) other = generator t
+stands_by None (Some t) = diagram t
+stands_by None None = free
+
+-- what the name stands for
+abbrev pub stands_for : Workspace → List ℕ → Stands
+stands_for W name = stands_by (type_named 0 W.generators name) (diagram_named W.diagrams name)
+
+-- what a meaning says over a store, whose ids are of the store
+abbrev pub meaning_over : Contents → Meaning → Stands
+meaning_over c meaning.Free = free
+meaning_over c (meaning.Generator t) = generator (diagram_at c t)
+meaning_over c (meaning.Diagram d) = diagram (diagram_at c d)
+
+abbrev pub IsMeaningOf : Contents → Meaning → Type 0
+IsMeaningOf c meaning.Free = Unit {0}
+IsMeaningOf c (meaning.Generator t) = IsDiagramOf c t
+IsMeaningOf c (meaning.Diagram d) = IsDiagramOf c d
+
+-- the table says of each name what it stands for
+pub record Tell (c : Contents) (W : Workspace) (names : Names) : Type 0 where
+  pub of_store : (name : List ℕ) → IsMeaningOf c (meaning_in names name)
+  pub means : (name : List ℕ) → meaning_over c (meaning_in names name) ≡ stands_for W name
+
+-- A workspace has one name more than another, and this name stands there for something.
+pub record Gains (less more : Workspace) (name : List ℕ) (here : Stands) : Type 0 where
+  pub before : stands_for less name ≡ free
+  pub now : stands_for more name ≡ here
+  pub others : (other : List ℕ) → bytes_eq other name ≡ false → stands_for more other ≡ stands_for less other

@@ -1,0 +1,94 @@
+-- For callers: a workspace over a store that grew, and with one generator or diagram more.
+use Rattle.std.proofs.Common.{◌≡◌, ◌∙◌, ℕ, ◌<◌, List, [], ◌∷◌, ◌++◌, length, slice_get, Option, Some, None, refl, ap, subst, arith}
+use Rattle.std.proofs.lemmas.Option.{get_or_from_slice_get, slice_get_within}
+use Rattle.std.proofs.lemmas.List.Elements.{All-head, All-tail, All-weaker, All-push, All-same}
+use Rattle.std.specs.List.{All}
+use Rattle.diagram_terms.specs.Tree.{Tree}
+use Rattle.hashcons.specs.declared.id.AnyId.{AnyId}
+use Rattle.hashcons.specs.declared.id.AnyId.TheVariants as id
+use Rattle.hashcons.specs.Contents.{Contents, Grows, IsDiagramOf, diagram_at}
+use Rattle.hashcons.specs.Ids.{GathersIds, IsOf}
+use Rattle.hashcons.specs.Listing.{AreOf}
+use Rattle.typecheck.specs.Signatures.{IsBoundaryOf, generator_in}
+use Rattle.workspace_lists.specs.Held.{IsGeneratorOf, IsHeld, diagrams_over, generators_over, workspace_in}
+use Rattle.workspace_lists.specs.declared.workspace.Generator.{Generator}
+use Rattle.workspace_lists.specs.declared.workspace.Named.{Named}
+use Rattle.workspace_lists.specs.declared.workspace.Workspace.{Workspace}
+
+-- ---- a store that grew
+
+module _ (old new : Contents) (g : Grows old new) where
+  pub boundary-kept : (b : Option (ℕ × ℕ)) → IsBoundaryOf old b → IsBoundaryOf new b
+  boundary-kept None of = tt
+  boundary-kept (Some (s, t)) of = record { source = g.diagrams s of.source; target = g.diagrams t of.target }
+
+  pub generator_in-kept : (b : Option (ℕ × ℕ)) → IsBoundaryOf old b → generator_in new b ≡ generator_in old b
+  generator_in-kept None of = refl
+  generator_in-kept (Some (s, t)) of =
+      ap (λ a. Some (a, diagram_at new t)) (g.diagram_trees s of.source)
+      ∙ ap (λ b. Some (diagram_at old s, b)) (g.diagram_trees t of.target)
+
+  pub generator-kept : (e : Generator) → IsGeneratorOf old e → IsGeneratorOf new e
+  generator-kept e h = record {
+    of_store = boundary-kept e.boundary h.of_store;
+    dim = let same = generator_in-kept e.boundary h.of_store in let was = h.dim in cc;
+  }
+
+  pub held-kept : (w : Workspace) → IsHeld old w → IsHeld new w
+  held-kept w h = record {
+    generators = All-weaker (IsGeneratorOf old) (IsGeneratorOf new) generator-kept w.generators.items h.generators;
+    diagrams = All-weaker (λ (d : Named). IsDiagramOf old d.root) (λ (d : Named). IsDiagramOf new d.root) (λ d l. g.diagrams d.root l)
+        w.diagrams.items h.diagrams;
+  }
+
+  pub generators_over-kept : (gs : List Generator) → All (IsGeneratorOf old) gs → generators_over new gs ≡ generators_over old gs
+  generators_over-kept [] all = refl
+  generators_over-kept (e ∷ gs) all =
+      let here = generator_in-kept e.boundary (All-head (IsGeneratorOf old) e gs all).of_store in
+      let more = generators_over-kept gs (All-tail (IsGeneratorOf old) e gs all) in
+      cc
+
+  pub diagrams_over-kept : (ds : List Named) → All (λ (d : Named). IsDiagramOf old d.root) ds → diagrams_over new ds ≡ diagrams_over old ds
+  diagrams_over-kept [] all = refl
+  diagrams_over-kept (d ∷ ds) all =
+      let here = g.diagram_trees d.root (All-head (λ (d : Named). IsDiagramOf old d.root) d ds all) in
+      let more = diagrams_over-kept ds (All-tail (λ (d : Named). IsDiagramOf old d.root) d ds all) in
+      cc
+
+  -- its trees are the same
+  pub workspace_in-kept : (w : Workspace) → IsHeld old w → workspace_in new w ≡ workspace_in old w
+  workspace_in-kept w h =
+      let first = generators_over-kept w.generators.items h.generators in
+      let second = diagrams_over-kept w.diagrams.items h.diagrams in
+      cc
+
+-- ---- one more
+
+module _ (c : Contents) (old new : Workspace) (h : IsHeld c old) where
+  pub held-generator_more : (e : Generator) → IsGeneratorOf c e → new.generators.items ≡ old.generators.items ++ e ∷ []
+      → new.diagrams.items ≡ old.diagrams.items → IsHeld c new
+  held-generator_more e of gs ds = record {
+    generators = All-same (IsGeneratorOf c) new.generators.items (old.generators.items ++ e ∷ []) gs
+        (All-push (IsGeneratorOf c) old.generators.items e h.generators of);
+    diagrams = All-same (λ (d : Named). IsDiagramOf c d.root) new.diagrams.items old.diagrams.items ds h.diagrams;
+  }
+
+  pub held-diagram_more : (e : Named) → IsDiagramOf c e.root → new.generators.items ≡ old.generators.items
+      → new.diagrams.items ≡ old.diagrams.items ++ e ∷ [] → IsHeld c new
+  held-diagram_more e of gs ds = record {
+    generators = All-same (IsGeneratorOf c) new.generators.items old.generators.items gs h.generators;
+    diagrams = All-same (λ (d : Named). IsDiagramOf c d.root) new.diagrams.items (old.diagrams.items ++ e ∷ []) ds
+        (All-push (λ (d : Named). IsDiagramOf c d.root) old.diagrams.items e h.diagrams of);
+  }
+
+-- ---- ids of a store
+
+-- an id among ids of the store
+pub diagram_found : (c : Contents) (ids : List AnyId) (i d : ℕ) → AreOf c ids → slice_get ids i ≡ Some (id.Diagram d) → IsDiagramOf c d
+diagram_found c ids i d of is =
+    let within : i < length ids = slice_get_within ids i (id.Diagram d) is in
+    subst (IsOf c) (get_or_from_slice_get ids i (id.Diagram d) (id.Diagram 0) is) (of.of_store i within)
+
+-- ids that were put
+pub gathered-of_store : (c : Contents) (ids : List AnyId) (n : ℕ) (f : ℕ → Tree) → GathersIds c ids n f → AreOf c ids
+gathered-of_store c ids n f g = record { of_store = λ i l. g.of_store i (let k = g.len in omega arith) }

@@ -1,0 +1,4 @@
+pub mod HeldLemmas
+pub mod EntryLemmas
+pub mod CountLemmas
+pub mod Kept

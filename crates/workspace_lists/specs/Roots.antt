@@ -1,0 +1,50 @@
+-- The ids of the roots of a workspace, and its entries by the places of these ids.
+use Rattle.std.specs.Prelude.{ℕ, ◌+◌, List, [], ◌∷◌, ◌++◌, map, get_or, Bool, true, false, Option, Some, None}
+use Rattle.std.specs.List.{flat_map}
+use Rattle.diagram_terms.specs.declared.node.Node.{Node}
+use Rattle.diagram_terms.specs.declared.node.Node.TheVariants as node
+use Rattle.hashcons.specs.declared.id.AnyId.{AnyId}
+use Rattle.hashcons.specs.declared.id.AnyId.TheVariants as id
+use Rattle.node_json.specs.declared.document.DiagramEntry.{DiagramEntry}
+use Rattle.node_json.specs.declared.document.GeneratorEntry.{GeneratorEntry}
+use Rattle.workspace_lists.specs.declared.workspace.Generator.{Generator}
+use Rattle.workspace_lists.specs.declared.workspace.Named.{Named}
+use Rattle.workspace_lists.specs.declared.workspace.Workspace.{Workspace}
+
+-- the ids of a boundary: the source, and then the target
+abbrev pub boundary_ids : Option (ℕ × ℕ) → List AnyId
+boundary_ids None = []
+boundary_ids (Some (s, t)) = id.Diagram s ∷ id.Diagram t ∷ []
+
+-- those of the boundaries of some generators, and those of some diagrams
+abbrev pub end_ids : List Generator → List AnyId
+end_ids gs = flat_map (λ g. boundary_ids g.boundary) gs
+
+abbrev pub diagram_ids : List Named → List AnyId
+diagram_ids ds = map (λ d. id.Diagram d.root) ds
+
+abbrev pub root_ids : Workspace → List AnyId
+root_ids w = end_ids w.generators.items ++ diagram_ids w.diagrams.items
+
+-- the entries, where each id has a place
+abbrev pub ends_at : (AnyId → ℕ) → Option (ℕ × ℕ) → Option (ℕ × ℕ)
+ends_at place None = None
+ends_at place (Some (s, t)) = Some (place (id.Diagram s), place (id.Diagram t))
+
+abbrev pub generator_at : (AnyId → ℕ) → Generator → GeneratorEntry
+generator_at place g = record { name = g.name; boundary = ends_at place g.boundary }
+
+abbrev pub named_at : (AnyId → ℕ) → Named → DiagramEntry
+named_at place d = record { name = d.name; root = place (id.Diagram d.root) }
+
+-- the places of a boundary, which stand in a list from this one on
+abbrev pub ends_from : List ℕ → ℕ → Option (ℕ × ℕ) → Option (ℕ × ℕ)
+ends_from places at None = None
+ends_from places at (Some ends) = Some (get_or places at 0, get_or places (at + 1) 0)
+
+-- a node of a diagram, and not of an arrow
+abbrev pub is_diagram_node : Node → Bool
+is_diagram_node (node.Label l) = true
+is_diagram_node (node.Diagram a b c d) = true
+is_diagram_node (node.Labels l m) = false
+is_diagram_node (node.Arrow a b c) = false

@@ -1,0 +1,16 @@
+//! Workspaces over a store: their generators and diagrams, what their names stand for, and their
+//! documents and counts.
+#![tactic(auto)]
+
+mod names;
+mod printing;
+mod saved;
+mod workspace;
+
+pub use names::{Meaning, Names};
+pub use printing::printed;
+pub use saved::{Counts, document, stats};
+pub use workspace::{Generator, Named, Workspace};
+
+#[cfg(test)]
+mod tests;

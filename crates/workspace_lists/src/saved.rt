@@ -1,0 +1,170 @@
+ghost use Rattle.std.specs.Prelude.{◌≡◌, ◌≤◌, ◌+◌, ℕ, IfOk, count_by, length, map};
+ghost use Rattle.hashcons.specs.declared.id.AnyId.{AnyId as Id};
+ghost use Rattle.workspace_json.specs.Saved.{document_of, stats_of};
+ghost use Rattle.workspace_json.specs.declared.reply.Reply.{Reply};
+ghost use Rattle.workspace_lists.specs.Held.{IsHeld, workspace_in};
+ghost use Rattle.workspace_lists.specs.Roots.{boundary_ids, diagram_ids, end_ids, ends_from, generator_at, is_diagram_node, named_at, root_ids};
+
+use crate::workspace::{Generator, Named, Workspace};
+use diagram_terms::{Items, Node, Text};
+use hashcons::{AnyId, DiagramId, Store};
+use std::alloc::{AllocError, Global};
+use workspace_json::{DiagramEntry, Document, GeneratorEntry};
+
+/// What a workspace holds, in numbers.
+#[derive(Clone, Copy, Debug, PartialEq, Eq)]
+pub struct Counts {
+    pub generators: usize,
+    /// The stored diagrams.
+    pub named: usize,
+    pub maps: usize,
+    /// The distinct diagrams among the subtrees of the workspace.
+    pub diagrams: usize,
+    /// The distinct arrows among them.
+    pub arrows: usize,
+}
+
+/// The document of a workspace. Each distinct subtree is looked at once.
+pub fn document(alloc: Global, store: &Store, workspace: &Workspace) -> Result<Document, AllocError>
+    requires { IsHeld store.now workspace.now }
+    ensures { IfOk result (λ document. document ≡ document_of (workspace_in store.now workspace.now)) }
+{
+    let roots = roots_of(alloc, workspace)?;
+    let (nodes, places) = store.list(&roots)?;
+    // the places come in the order of the roots
+    let (ends, tops) = places.split_at(places.len() - workspace.diagrams.len());
+    let generators = generator_entries(alloc, &workspace.generators, ends)?;
+    let diagrams = diagram_entries(alloc, &workspace.diagrams, tops)?;
+    Ok(Document {
+        generators: Items::from_vec(generators),
+        diagrams: Items::from_vec(diagrams),
+        maps: Items::from_vec(Vec::new(alloc)),
+        nodes: Items::from_vec(nodes),
+    })
+}
+
+/// What a workspace holds, in numbers. Each distinct subtree is looked at once.
+pub fn stats(alloc: Global, store: &Store, workspace: &Workspace) -> Result<Counts, AllocError>
+    requires { IsHeld store.now workspace.now }
+    ensures { IfOk result (λ s. stats_of (workspace_in store.now workspace.now)
+        ≡ Reply.Stats s.arrows s.diagrams s.generators s.maps s.named) }
+{
+    let roots = roots_of(alloc, workspace)?;
+    let (nodes, _) = store.list(&roots)?;
+    let diagrams = diagrams_among(&nodes);
+    Ok(Counts {
+        generators: workspace.generators.len(),
+        named: workspace.diagrams.len(),
+        maps: 0,
+        diagrams,
+        arrows: nodes.len() - diagrams,
+    })
+}
+
+/// The ids of the boundary of each generator, and then of each diagram.
+fn roots_of(alloc: Global, workspace: &Workspace) -> Result<Vec<AnyId>, AllocError>
+    ensures { IfOk result (λ ids. ids.items ≡ root_ids workspace.now) }
+{
+    let mut roots = ends_of(alloc, &workspace.generators)?;
+    for diagram in &workspace.diagrams {
+        roots.push(AnyId::Diagram(diagram.root))?;
+    }
+    Ok(roots)
+}
+
+/// The ids of the boundary of each generator.
+fn ends_of(alloc: Global, generators: &[Generator]) -> Result<Vec<AnyId>, AllocError>
+    ensures { IfOk result (λ ids. ids.items ≡ end_ids generators.now) }
+{
+    let mut ends = Vec::new(alloc);
+    for generator in generators {
+        if let Some((source, target)) = generator.boundary {
+            ends.push(AnyId::Diagram(source))?;
+            ends.push(AnyId::Diagram(target))?;
+        }
+    }
+    Ok(ends)
+}
+
+/// The entries of generators, from the places of their boundaries.
+fn generator_entries(
+    alloc: Global,
+    generators: &[Generator],
+    places: &[usize],
+) -> Result<Vec<GeneratorEntry>, AllocError>
+    requires { length places.now ≡ length (end_ids generators.now) }
+    ensures { IfOk result (λ entries. (place : Id → ℕ) → places.now ≡ map place (end_ids generators.now)
+        → entries.items ≡ map (generator_at place) generators.now) }
+{
+    let mut entries = Vec::new(alloc);
+    let mut at = 0;
+    for generator in generators {
+        let name = copied(alloc, &generator.name)?;
+        let boundary = places_from(generator.boundary, places, at);
+        at += ends_in(generator.boundary);
+        entries.push(GeneratorEntry { name, boundary })?;
+    }
+    Ok(entries)
+}
+
+/// How many ends a boundary has.
+fn ends_in(boundary: Option<(DiagramId, DiagramId)>) -> usize
+    ensures { result ≡ length (boundary_ids boundary) }
+{
+    match boundary {
+        Some(_) => 2,
+        None => 0,
+    }
+}
+
+/// The places of a boundary, which stand from this one on.
+fn places_from(
+    boundary: Option<(DiagramId, DiagramId)>,
+    places: &[usize],
+    at: usize,
+) -> Option<(usize, usize)>
+    requires { at + length (boundary_ids boundary) ≤ length places.now }
+    ensures { result ≡ ends_from places.now at boundary }
+{
+    match boundary {
+        Some(_) => Some((places[at], places[at + 1])),
+        None => None,
+    }
+}
+
+/// The entries of diagrams, from the places of their roots.
+fn diagram_entries(
+    alloc: Global,
+    diagrams: &[Named],
+    places: &[usize],
+) -> Result<Vec<DiagramEntry>, AllocError>
+    requires { length places.now ≡ length diagrams.now }
+    ensures { IfOk result (λ entries. (place : Id → ℕ) → places.now ≡ map place (diagram_ids diagrams.now)
+        → entries.items ≡ map (named_at place) diagrams.now) }
+{
+    let mut entries = Vec::new(alloc);
+    for (i, diagram) in diagrams.iter().enumerate() {
+        let name = copied(alloc, &diagram.name)?;
+        let root = places[i];
+        entries.push(DiagramEntry { name, root })?;
+    }
+    Ok(entries)
+}
+
+/// The same text again.
+fn copied(alloc: Global, text: &Text) -> Result<Text, AllocError>
+    ensures { IfOk result (λ copy. copy ≡ text.now) }
+{
+    let copy = String::from_str(alloc, text.as_str())?;
+    Ok(Text::from_string(copy))
+}
+
+/// How many of the nodes are diagrams, and not arrows.
+fn diagrams_among(nodes: &[Node]) -> usize
+    ensures { result ≡ count_by is_diagram_node nodes.now }
+{
+    nodes
+        .iter()
+        .filter(|node| matches!(node, Node::Label(_) | Node::Diagram { .. }))
+        .count()
+}
