@@ -2,5 +2,4 @@ pub mod ConeLaws
 pub mod ConeLemmas
 pub mod ConeSteps
 pub mod Ends
-pub mod Points
 pub mod SliceLemmas

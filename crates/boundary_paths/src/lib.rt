@@ -9,6 +9,3 @@ mod slices;
 pub use cones::{cone, type_over};
 pub use degenerate::identity_diagram;
 pub use slices::{NoHeight, parallel, slice, source, target};
-
-#[cfg(test)]
-mod tests;

@@ -13,7 +13,7 @@ use Rattle.diagram_terms.specs.Family.{Dia, Arr, reg, sing, height, arrow_reg, a
 use Rattle.diagram_terms.specs.Dual.{IsMonotone, dual}
 use Rattle.diagram_terms.specs.Decoded.{arr_tree, dia_tree}
 use Rattle.diagram_terms.specs.Valid.{ValidArrow}
-use Rattle.diagram_terms.specs.Places.{Test, Passes, here, under, lengths_fit, ends_hold, arrow_tests, first_failure}
+use Rattle.diagram_terms.specs.Places.{further_in, Test, Passes, here, under, lengths_fit, ends_hold, arrow_tests, first_failure}
 use Rattle.diagram_terms.specs.Levels.{StandsBetween, LevelFits, RegsBetween, SingsBetween, SlicesAreValid, reg_tests, sing_tests, square_tests}
 use Rattle.diagram_terms.specs.Values.{trees_of_arrows, trees_of_diagrams}
 use Rattle.diagram_terms.proofs.Decisions.{passes_each, passes_under}
@@ -23,7 +23,7 @@ use Rattle.diagram_terms.proofs.FirstFaults.{none_iff_all_pass, arrow_passes}
 use Rattle.diagram_terms.proofs.Glue.{arr-arr_tree}
 use Rattle.diagram_terms.proofs.HeldArrows.{AreHeldParts, held_arrow, held_length, held_parts, held_ends, no_zig_at_zero, no_pair_above}
 use Rattle.diagram_terms.proofs.HeldDiagrams.{AreHeldSlices, held_diagram, held_diagrams_length, held_slices, held_label, no_label_above}
-use Rattle.diagram_terms.proofs.Visiting.{further_in, here_fails, here_passes, under_fails, under_passes, each_fails, each_passes, PassBefore, first_of_four, second_of_four, third_of_four, last_of_four}
+use Rattle.diagram_terms.proofs.Visiting.{here_fails, here_passes, under_fails, under_passes, each_fails, each_passes, PassBefore, first_of_four, second_of_four, third_of_four, last_of_four}
 
 -- ---- dimension 0
 

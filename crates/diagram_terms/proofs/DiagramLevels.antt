@@ -11,7 +11,7 @@ use Rattle.diagram_terms.specs.Family.{Dia, no_dia, reg, sing, fwd, bwd}
 use Rattle.diagram_terms.specs.Decoded.{dia, dia_tree}
 use Rattle.diagram_terms.specs.Shape.{IsDiagram}
 use Rattle.diagram_terms.specs.Valid.{Valid}
-use Rattle.diagram_terms.specs.Places.{Test, Passes, under, at_each, arrow_tests, leg_tests, tests_of, first_failure, first_bad_place}
+use Rattle.diagram_terms.specs.Places.{further_in, Test, Passes, under, at_each, arrow_tests, leg_tests, tests_of, first_failure, first_bad_place}
 use Rattle.diagram_terms.specs.Levels.{StandsBetween, HoldsSlices, HoldsLegs, reg_slice_tests, sing_slice_tests}
 use Rattle.diagram_terms.specs.Values.{tree_of_diagram, trees_of_arrows, trees_of_diagrams}
 use Rattle.diagram_terms.proofs.Decisions.{passes_each, passes_under}
@@ -22,7 +22,7 @@ use Rattle.diagram_terms.proofs.HeldArrows.{held_arrow, held_length}
 use Rattle.diagram_terms.proofs.HeldDiagrams.{AreHeldSlices, held_diagram, held_diagrams_length, held_slices}
 use Rattle.diagram_terms.proofs.Shapes.{kind-diagram_zero, kind-diagram_above}
 use Rattle.diagram_terms.proofs.ValueLemmas.{tree_of_diagram-Zero, tree_of_diagram-Zig}
-use Rattle.diagram_terms.proofs.Visiting.{further_in, append_fails, append_passes, under_fails, under_passes, each_fails, each_passes, PassBefore, first_of_three, second_of_three, last_of_three}
+use Rattle.diagram_terms.proofs.Visiting.{append_fails, append_passes, under_fails, under_passes, each_fails, each_passes, PassBefore, first_of_three, second_of_three, last_of_three}
 
 -- ---- slices in a list
 

@@ -1,6 +1,6 @@
 -- The diagrams and arrows of the family whose lengths fit at every level are those whose trees have the right shape.
 use Rattle.std.proofs.Common.{◌≡◌, ℕ, zero, suc, ◌<◌, ◌≤◌, List, length, get_or, sym, ◌∙◌, ap, arith, subst}
-use Rattle.diagram_terms.specs.Tree.{Tree, regs, sings, heights}
+use Rattle.diagram_terms.specs.Tree.{Tree, regs, sings}
 use Rattle.diagram_terms.specs.Family.{Dia, Arr, reg, sing, fwd, bwd, height, arrow_reg, arrow_sing}
 use Rattle.diagram_terms.specs.Dual.{IsMonotone}
 use Rattle.diagram_terms.specs.Decoded.{dia, arr, dia_tree, arr_tree}

@@ -1,7 +1,6 @@
 -- The tree at each place of a list of nodes has the shape that its sort says, and its parts are the trees at its places.
 use Rattle.std.proofs.Common.{◌≡◌, ℕ, zero, suc, ◌<◌, ◌≤◌, List, length, get_or, sym, ap, ◌∙◌, arith, subst}
 use Rattle.std.proofs.lemmas.List.{get_or-map, length-map}
-use Rattle.diagram_terms.specs.declared.label.Label.{Label}
 use Rattle.diagram_terms.specs.declared.node.Node.{Node}
 use Rattle.diagram_terms.specs.declared.node.Node.TheVariants as node
 use Rattle.diagram_terms.specs.declared.node.Sort.{Sort}

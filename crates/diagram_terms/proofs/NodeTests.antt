@@ -4,7 +4,6 @@ use Rattle.std.specs.Prelude.{◌&&◌, ◌==◌, nat_lt, nat_le}
 use Rattle.std.specs.List.{list_all}
 use Rattle.std.proofs.lemmas.Bool.{and_parts, and_from, ltb-true, leb-true, eqb-true, lt-ltb, le-leb, eq-eqb}
 use Rattle.diagram_terms.specs.declared.label.Label.{Label}
-use Rattle.diagram_terms.specs.declared.node.Node.TheVariants as node
 use Rattle.diagram_terms.specs.declared.node.Sort.{Sort}
 use Rattle.diagram_terms.specs.declared.node.Sort.TheVariants as sort
 use Rattle.diagram_terms.specs.Dual.{IsMonotone}

@@ -1,6 +1,6 @@
 -- The trees of the variants, when two are equal, and what a tree's shape says of the value.
 use Rattle.std.proofs.Common.{◌≡◌, ℕ, zero, suc, ◌<◌, ◌↔◌, length, get_or, Vec, Global, List, sym, ap, ◌∙◌, subst, refl, arith}
-use Rattle.std.proofs.lemmas.List.{get_or-map, length-map}
+use Rattle.std.proofs.lemmas.List.{get_or-map}
 use Rattle.diagram_terms.specs.declared.label.Label.{Label}
 use Rattle.diagram_terms.specs.declared.tree.Arrow.{Arrow}
 use Rattle.diagram_terms.specs.declared.tree.Arrow.TheOpen.{Arrow-F}

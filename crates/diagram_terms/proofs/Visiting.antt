@@ -1,12 +1,12 @@
 -- The first failure of a list of tests that is made of parts.
-use Rattle.std.proofs.Common.{◌≡◌, ℕ, zero, suc, ◌+◌, ◌<◌, ◌≤◌, List, [], ◌∷◌, ◌++◌, Bool, true, false, None, Some, refl, sym, ap, ◌∙◌, subst, inl, inr, arith}
+use Rattle.std.proofs.Common.{◌≡◌, ℕ, zero, suc, ◌+◌, ◌<◌, ◌≤◌, List, [], ◌∷◌, ◌++◌, Bool, true, false, None, Some, option_map, refl, sym, ap, ◌∙◌, subst, inl, inr, arith}
 use Rattle.std.specs.List.{flat_map, range_with_len}
 use Rattle.std.proofs.lemmas.Bool.{cases_Bool, cases_lt}
-use Rattle.std.proofs.lemmas.Option.{none-some, same_Some}
+use Rattle.std.proofs.lemmas.Option.{none-some}
 use Rattle.diagram_terms.specs.declared.place.Place.{Place}
 use Rattle.diagram_terms.specs.declared.place.Step.{Step}
 use Rattle.diagram_terms.specs.declared.place.End.{End}
-use Rattle.diagram_terms.specs.Places.{Test, here, one_step_in, under, at_each, first_failure}
+use Rattle.diagram_terms.specs.Places.{Test, here, further_in, one_step_in, under, at_each, first_failure}
 use Rattle.diagram_terms.proofs.FirstFaults.{first_failed, first_passed}
 
 -- ---- one test
@@ -37,23 +37,18 @@ append_fails (t ∷ ts) us p e = elim (cases_Bool t.holds) [
 
 -- ---- one step further in
 
-pub under_passes : (s : Step) (ts : List Test) → first_failure ts ≡ None → first_failure (under s ts) ≡ None
-under_passes s [] e = refl
-under_passes s (t ∷ ts) e = elim (cases_Bool t.holds) [
-  | inl h ↦ first_passed (one_step_in s t) (under s ts) h ∙ under_passes s ts (sym (first_passed t ts h) ∙ e)
-  | inr h ↦ absurd (none-some t.place (sym e ∙ first_failed t ts h))
+pub first_failure-under : (s : Step) (ts : List Test) → first_failure (under s ts) ≡ option_map (further_in s) (first_failure ts)
+first_failure-under s [] = refl
+first_failure-under s (t ∷ ts) = elim (cases_Bool t.holds) [
+  | inl h ↦ first_passed (one_step_in s t) (under s ts) h ∙ first_failure-under s ts ∙ ap (option_map (further_in s)) (sym (first_passed t ts h))
+  | inr h ↦ first_failed (one_step_in s t) (under s ts) h ∙ ap (option_map (further_in s)) (sym (first_failed t ts h))
 ]
 
-abbrev pub further_in : Step → Place → Place
-further_in s p = record { steps = s ∷ p.steps; end = p.end }
+pub under_passes : (s : Step) (ts : List Test) → first_failure ts ≡ None → first_failure (under s ts) ≡ None
+under_passes s ts e = first_failure-under s ts ∙ ap (option_map (further_in s)) e
 
 pub under_fails : (s : Step) (ts : List Test) (p : Place) → first_failure ts ≡ Some p → first_failure (under s ts) ≡ Some (further_in s p)
-under_fails s [] p e = absurd (none-some p e)
-under_fails s (t ∷ ts) p e = elim (cases_Bool t.holds) [
-  | inl h ↦ first_passed (one_step_in s t) (under s ts) h ∙ under_fails s ts p (sym (first_passed t ts h) ∙ e)
-  | inr h ↦ first_failed (one_step_in s t) (under s ts) h
-      ∙ ap (λ (q : Place). Some (further_in s q)) (same_Some t.place p (sym (first_failed t ts h) ∙ e))
-]
+under_fails s ts p e = first_failure-under s ts ∙ ap (option_map (further_in s)) e
 
 -- ---- the tests at each height
 

@@ -19,6 +19,8 @@ pub mod Points
 pub mod Typing
 pub mod GeneratorTypes
 pub mod Valid
+pub mod Degeneracy
+pub mod Least
 pub mod Places
 pub mod Levels
 pub mod Nodes

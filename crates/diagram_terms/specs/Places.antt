@@ -31,9 +31,13 @@ Passes t = t.holds ≡ true
 abbrev pub here : End → Bool → List Test
 here e holds = record { place = record { steps = []; end = e }; holds = holds } ∷ []
 
+-- a place of a slice or a leg, seen from the diagram or arrow: one step further in
+abbrev pub further_in : Step → Place → Place
+further_in s p = record { steps = s ∷ p.steps; end = p.end }
+
 -- the tests of a slice or a leg, one step further in
 abbrev pub one_step_in : Step → Test → Test
-one_step_in s t = record { place = record { steps = s ∷ t.place.steps; end = t.place.end }; holds = t.holds }
+one_step_in s t = record { place = further_in s t.place; holds = t.holds }
 
 abbrev pub under : Step → List Test → List Test
 under s ts = map (one_step_in s) ts

@@ -1,6 +1,5 @@
 -- The tree that a value of the program is.
-use Rattle.std.specs.Prelude.{ℕ, List, map}
-use Rattle.diagram_terms.specs.declared.label.Label.{Label}
+use Rattle.std.specs.Prelude.{List, map}
 use Rattle.diagram_terms.specs.declared.tree.Arrow.{Arrow}
 use Rattle.diagram_terms.specs.declared.tree.Arrow.TheOpen.{Arrow-F}
 use Rattle.diagram_terms.specs.declared.tree.Arrow.TheFolds.{fold-Arrow}

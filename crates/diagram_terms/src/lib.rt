@@ -22,10 +22,7 @@ pub use label::Label;
 pub use laws::{decoding_is_faithful, no_bad_place_is_validity, one_first_fault};
 pub use measure::dimension;
 pub use node::{Node, Sort};
-pub use place::{Bias, End, Fault, Height, Place, Side, Step};
+pub use place::{Bias, End, Fault, Height, Place, Side, Step, place_here, place_under};
 pub use sqlite_items::Items;
 pub use text::Text;
 pub use tree::{Arrow, Diagram};
-
-#[cfg(test)]
-mod tests;

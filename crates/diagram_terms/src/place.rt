@@ -1,4 +1,5 @@
-ghost use Rattle.std.specs.Prelude.{◌≡◌, ◌∷◌, [], IfOk};
+ghost use Rattle.std.specs.Prelude.{◌≡◌, [], IfOk};
+ghost use Rattle.diagram_terms.specs.Places.{further_in};
 
 use sqlite_items::Items;
 use std::alloc::{AllocError, Global};
@@ -72,7 +73,7 @@ pub enum Fault {
 }
 
 /// The place right here, with no step to it.
-pub(crate) fn place_here(alloc: Global, end: End) -> Place
+pub fn place_here(alloc: Global, end: End) -> Place
     ensures { result ≡ record { steps = []; end = end } }
 {
     Place {
@@ -82,8 +83,8 @@ pub(crate) fn place_here(alloc: Global, end: End) -> Place
 }
 
 /// The same place, seen from one step further out.
-pub(crate) fn place_under(alloc: Global, step: Step, place: Place) -> Result<Place, AllocError>
-    ensures { IfOk result (λ p. p ≡ record { steps = step ∷ place.steps; end = place.end }) }
+pub fn place_under(alloc: Global, step: Step, place: Place) -> Result<Place, AllocError>
+    ensures { IfOk result (λ p. p ≡ further_in step place) }
 {
     let Place { steps: inner, end } = place;
     let mut steps = Items::new(alloc);

@@ -15,6 +15,3 @@ pub use laws::lists_each_once;
 pub use node::{ArrowNode, DiagramNode};
 pub use read::same;
 pub use store::Store;
-
-#[cfg(test)]
-mod tests;

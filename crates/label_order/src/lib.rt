@@ -49,6 +49,3 @@ pub fn join(labels: &[Label]) -> Result<Label, Clash>
 pub fn joins_or_clashes()
     ensures { JoinsOrClashes }
 {}
-
-#[cfg(test)]
-mod tests;

@@ -9,6 +9,7 @@ use crate::unshared::unshared;
 use diagram_terms::{Node, Place, first_bad_square};
 use hashcons::{AnyId, ArrowId, DiagramId, Store};
 use node_json::{Document, FormFault, read_document};
+use plain_maps::plain;
 use std::alloc::{AllocError, Global};
 use std::test::Fail;
 use zigzag_maps::{Map, SquareTest, compose, identity, squares, valid};
@@ -126,6 +127,16 @@ pub(crate) fn unit_composites(
     let after = compose(alloc, store, *map, of_source)?;
     let before = compose(alloc, store, of_target, *map)?;
     Ok((after, before))
+}
+
+/// Whether the arrow of a map is plain. The map has to be valid.
+pub(crate) fn plain_of(alloc: Global, store: &mut Store, map: &Map) -> Result<bool, Fail>
+    requires source { IsDiagramOf store.old map.now.source }
+    requires target { IsDiagramOf store.old map.now.target }
+    requires arrow { IsArrowOf store.old map.now.arrow }
+{
+    check_map(alloc, store, map)?;
+    Ok(plain(store, *map))
 }
 
 /// Where the plain tree at a place is not valid first.

@@ -1,7 +1,11 @@
-use crate::stored::{MapPlaces, diagram_faults, map_of, place_of, squares_of, unit_composites};
-use diagram_terms::{End, Place, Step};
+use crate::signatures::{cones_over_types, loop_on, one_too_many};
+use crate::stored::{
+    MapPlaces, diagram_faults, map_of, place_of, plain_of, squares_of, unit_composites,
+};
+use diagram_terms::{End, Fault, Label, Place, Step};
 use hashcons::Store;
 use std::test::Fail;
+use typecheck::AddRefusal;
 
 /// The nodes of x -> f <- x, at place 3.
 const COSPAN: &str =
@@ -27,6 +31,18 @@ const EMPTY_FIBRE: &str =
 /// place 4, that sends the one height to the first.
 const INCLUSION: &str =
     "{\"label\":[0,0]},{\"label\":[1,1]},{\"labels\":[[0,0],[0,0]]},{\"labels\":[[0,0],[1,1]]},{\"bwds\":[2,3],\"fwds\":[2,3],\"regs\":[0,0,0],\"sings\":[0,1]},{\"bwds\":[2],\"fwds\":[2],\"regs\":[0,0],\"sings\":[0]},{\"heights\":[0],\"regs\":[2,2,2],\"sings\":[2]}";
+
+/// The types F of f: x -> x at place 3 and A of a: f -> f at place 10. The cone over F with a is at
+/// place 9 and goes to place 6; the cone over A with p, a label of dimension 3, is at place 21 and goes
+/// to place 16.
+const CONES: &str =
+    "{\"label\":[0,0]},{\"label\":[1,1]},{\"labels\":[[0,0],[1,1]]},{\"bwds\":[2],\"fwds\":[2],\"regs\":[0,0],\"sings\":[1]},{\"label\":[2,2]},{\"labels\":[[0,0],[2,2]]},{\"bwds\":[5],\"fwds\":[5],\"regs\":[0,0],\"sings\":[4]},{\"labels\":[[0,0],[0,0]]},{\"labels\":[[1,1],[2,2]]},{\"heights\":[0],\"regs\":[7,7],\"sings\":[8]},{\"bwds\":[9],\"fwds\":[9],\"regs\":[3,3],\"sings\":[6]},{\"label\":[3,3]},{\"labels\":[[0,0],[3,3]]},{\"bwds\":[12],\"fwds\":[12],\"regs\":[0,0],\"sings\":[11]},{\"labels\":[[1,1],[3,3]]},{\"heights\":[0],\"regs\":[7,7],\"sings\":[14]},{\"bwds\":[15],\"fwds\":[15],\"regs\":[3,3],\"sings\":[13]},{\"labels\":[[1,1],[1,1]]},{\"heights\":[0],\"regs\":[7,7],\"sings\":[17]},{\"labels\":[[2,2],[3,3]]},{\"heights\":[0],\"regs\":[7,7],\"sings\":[19]},{\"heights\":[0],\"regs\":[18,18],\"sings\":[20]}";
+
+/// The identity diagrams of x and of f at places 3 and 4, and at place 5 the arrow between them whose
+/// regular slice is x -> f. At places 8 and 9 two diagrams of dimension 2, and at place 10 an arrow
+/// between them: its regular slices are identities, and its singular slice is place 5.
+const LOOSE_SLICES: &str =
+    "{\"label\":[0,0]},{\"label\":[1,1]},{\"labels\":[[0,0],[1,1]]},{\"bwds\":[],\"fwds\":[],\"regs\":[0],\"sings\":[]},{\"bwds\":[],\"fwds\":[],\"regs\":[1],\"sings\":[]},{\"heights\":[],\"regs\":[2],\"sings\":[]},{\"labels\":[[0,0],[0,0]]},{\"heights\":[],\"regs\":[6],\"sings\":[]},{\"bwds\":[7],\"fwds\":[7],\"regs\":[3,3],\"sings\":[3]},{\"bwds\":[5],\"fwds\":[5],\"regs\":[3,3],\"sings\":[4]},{\"heights\":[0],\"regs\":[7,7],\"sings\":[5]}";
 
 /// x, the arrow of dimension 0 on it, and the diagram of length 0 on it.
 const TWO_DIMENSIONS: &str =
@@ -86,6 +102,61 @@ fn composes_maps(rt: HostRuntime) -> Result<(), Fail> {
     let (after_identity, before_identity) = unit_composites(rt.alloc(), &mut store, &map)?;
     assert_eq!(rt; after_identity, map);
     assert_eq!(rt; before_identity, map);
+    Ok(())
+}
+
+#[test]
+fn plain_asks_every_slice(rt: HostRuntime) -> Result<(), Fail> {
+    let cases = [
+        (INCLUSION, (5, 4, 6), true),
+        (CONES, (10, 16, 21), true),
+        (LOOSE_SLICES, (0, 1, 2), true),
+        (LOOSE_SLICES, (3, 4, 5), false),
+        (LOOSE_SLICES, (8, 9, 10), false),
+    ];
+    for (nodes, (source, target, arrow), want) in cases {
+        let mut store = Store::new(rt.alloc());
+        let places = MapPlaces {
+            source,
+            target,
+            arrow,
+        };
+        let map = map_of(rt.alloc(), &mut store, nodes, places)?;
+        let answer = plain_of(rt.alloc(), &mut store, &map)?;
+        assert_eq!(rt; answer, want, "{nodes} {arrow}");
+    }
+    Ok(())
+}
+
+#[test]
+fn cones_go_over_types(rt: HostRuntime) -> Result<(), Fail> {
+    let mut store = Store::new(rt.alloc());
+    let (over_arrow, over_square) = cones_over_types(rt.alloc(), &mut store)?;
+    let cases = [(over_arrow, (3, 6, 9)), (over_square, (10, 16, 21))];
+    for (cone, (source, target, arrow)) in cases {
+        let places = MapPlaces {
+            source,
+            target,
+            arrow,
+        };
+        let want = map_of(rt.alloc(), &mut store, CONES, places)?;
+        assert_eq!(rt; cone, want);
+    }
+    Ok(())
+}
+
+#[test]
+fn generators_are_refused(rt: HostRuntime) -> Result<(), Fail> {
+    let mut store = Store::new(rt.alloc());
+    let (answer, len) = one_too_many(rt.alloc(), &mut store)?;
+    assert!(rt; matches!(answer, Err(AddRefusal::CountLimit)));
+    assert_eq!(rt; len, 60_000);
+    let unknown = Label { number: 1, dim: 0 };
+    let answer = loop_on(rt.alloc(), &mut store, unknown)?;
+    let Err(AddRefusal::IllTyped(Fault::LabelAt(point))) = answer else {
+        panic!(rt; "a loop on no generator");
+    };
+    assert!(rt; point.as_slice().is_empty());
     Ok(())
 }
 

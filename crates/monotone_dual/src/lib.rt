@@ -16,6 +16,3 @@ pub use laws::{
 };
 pub use monotone::Mono;
 pub use refusal::{MonoRefusal, make};
-
-#[cfg(test)]
-mod tests;

@@ -19,6 +19,3 @@ pub use names::is_good_name;
 pub use parts::{has_keys, keyed, list_at, text_at, value_of};
 pub use printing::{document_text, document_value, nodes_value};
 pub use reading::{field_fault, read_document};
-
-#[cfg(test)]
-mod tests;

@@ -10,16 +10,15 @@ use Rattle.diagram_terms.specs.Dimension.{dimension_of, IsArrowTree}
 use Rattle.diagram_terms.specs.Family.{Dia, reg, sing}
 use Rattle.diagram_terms.specs.Decoded.{dia, arr}
 use Rattle.diagram_terms.specs.Shape.{IsDiagram, IsArrow, reg_at, sing_at, fwd_at, bwd_at}
-use Rattle.diagram_terms.specs.Places.{Test, here, under, at_each, first_failure}
+use Rattle.diagram_terms.specs.Places.{further_in, Test, here, under, at_each, first_failure}
 use Rattle.diagram_terms.specs.Loose.{is_plain, plain_leg, plain_legs, plain_tests}
 use Rattle.diagram_terms.proofs.Dimensions.{diagram_dimension, arrow_dimension, diagram_tree, arrow_tree}
 use Rattle.diagram_terms.proofs.FirstFaults.{none_iff_all_pass}
 use Rattle.diagram_terms.proofs.Glue.{dia-sings_len, dia-reg, dia-sing, dia-fwd, dia-bwd}
 use Rattle.diagram_terms.proofs.LooseTests.{is_plain_decides, leg_passes, diagram_lengths, no_loose_leg, no_first_loose_leg}
-use Rattle.diagram_terms.proofs.Visiting.{here_fails}
+use Rattle.diagram_terms.proofs.Visiting.{first_failure-under, here_fails}
 use Rattle.hashcons.specs.Contents.{Contents, IsArrowOf, diagram_at, arrow_at}
-use Rattle.zigzag_maps.proofs.Visiting.{first_failure-under, same_each}
-use Rattle.zigzag_maps.specs.Visits.{place_in}
+use Rattle.zigzag_maps.proofs.Visiting.{same_each}
 use Rattle.plain_maps.specs.Plainness.{IsPlainTree, IsPlainDiagramTree, loose_leg, plain_tests_in, reg_slice_legs, sing_slice_legs, plain_leg_to, own_legs, IsArrowAt}
 use Rattle.zigzag_maps.specs.Validity.{IsDiagramAt}
 use Rattle.zigzag_maps.proofs.VisitLemmas.{ends_place}
@@ -55,14 +54,14 @@ leg_is_plain s f p =
     let d = dimension_of f in
     sym ((none_iff_all_pass (plain_leg d s (arr d f))).1 ((leg_passes d s (arr d f)).1 p))
 
-pub leg_is_loose : (s : Step) (f : Tree) → ¬ (IsPlainTree f) → option_map (place_in s) (Some ends_place) ≡ first_failure (plain_leg_to s f)
+pub leg_is_loose : (s : Step) (f : Tree) → ¬ (IsPlainTree f) → option_map (further_in s) (Some ends_place) ≡ first_failure (plain_leg_to s f)
 unfolding plain_leg_to IsPlainTree
 leg_is_loose s f n =
     let d = dimension_of f in
     let plain : Bool = is_plain d (arr d f) in
     elim (cases_Bool plain) [
       | inl holds ↦ absurd (n ((is_plain_decides d (arr d f)).0 holds))
-      | inr fails ↦ sym (first_failure-under s (here at_end.Ends plain) ∙ ap (option_map (place_in s)) (here_fails at_end.Ends plain fails))
+      | inr fails ↦ sym (first_failure-under s (here at_end.Ends plain) ∙ ap (option_map (further_in s)) (here_fails at_end.Ends plain fails))
     ]
 
 -- ---- a diagram, part by part
@@ -116,14 +115,14 @@ parts_are (suc d) t l h = ap first_failure (sym (parts_are_at d t h))
 -- ---- what was found in a slice
 
 module _ (t s : Tree) (k : ℕ) (found : Option Place) (is : found ≡ first_failure (plain_tests_in s)) where
-  pub reg_slice_found : s ≡ reg_at t k → option_map (place_in (step.R k)) found ≡ first_failure (reg_slice_legs t k)
+  pub reg_slice_found : s ≡ reg_at t k → option_map (further_in (step.R k)) found ≡ first_failure (reg_slice_legs t k)
   reg_slice_found e =
-      ap (option_map (place_in (step.R k))) (is ∙ ap (λ u. first_failure (plain_tests_in u)) e)
+      ap (option_map (further_in (step.R k))) (is ∙ ap (λ u. first_failure (plain_tests_in u)) e)
       ∙ sym (first_failure-under (step.R k) (plain_tests_in (reg_at t k)))
 
-  pub sing_slice_found : s ≡ sing_at t k → option_map (place_in (step.S k)) found ≡ first_failure (sing_slice_legs t k)
+  pub sing_slice_found : s ≡ sing_at t k → option_map (further_in (step.S k)) found ≡ first_failure (sing_slice_legs t k)
   sing_slice_found e =
-      ap (option_map (place_in (step.S k))) (is ∙ ap (λ u. first_failure (plain_tests_in u)) e)
+      ap (option_map (further_in (step.S k))) (is ∙ ap (λ u. first_failure (plain_tests_in u)) e)
       ∙ sym (first_failure-under (step.S k) (plain_tests_in (sing_at t k)))
 
 -- ---- the legs of a diagram of a store

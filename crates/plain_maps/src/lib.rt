@@ -8,6 +8,3 @@ mod plainness;
 
 pub use loose::first_loose;
 pub use plainness::plain;
-
-#[cfg(test)]
-mod tests;

@@ -9,10 +9,10 @@ ghost use Rattle.zigzag_maps.specs.Validity.{IsDiagramAt};
 
 use crate::plain_arrows::is_plain_once;
 use crate::plain_kept::PlainKept;
-use diagram_terms::{End, Items, Place, Step};
+use diagram_terms::{End, Items, Place, Step, place_here};
 use hashcons::{AnyId, ArrowId, DiagramId, Store};
 use std::alloc::{AllocError, Global};
-use zigzag_maps::{found_in, place_here};
+use zigzag_maps::found_in;
 
 /// The steps to the first leg of a diagram that is not plain, outermost first.
 pub fn first_loose(

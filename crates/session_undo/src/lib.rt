@@ -13,6 +13,3 @@ mod state;
 mod stop;
 
 pub use session::{NothingToRedo, NothingToUndo, Session};
-
-#[cfg(test)]
-mod tests;

@@ -12,6 +12,3 @@ pub use laws::no_fault_is_well_typed;
 pub use refusal::AddRefusal;
 pub use signature::Signature;
 pub use verdict::Verdict;
-
-#[cfg(test)]
-mod tests;

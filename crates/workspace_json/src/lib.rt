@@ -21,6 +21,3 @@ pub use paths::{height_of, is_path, path_of};
 pub use refusal::Refusal;
 pub use reply::{Reply, Word};
 pub use writing::{form_text, reply_text};
-
-#[cfg(test)]
-mod tests;

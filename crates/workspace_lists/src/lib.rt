@@ -11,6 +11,3 @@ pub use names::{Meaning, Names};
 pub use printing::printed;
 pub use saved::{Counts, document, stats};
 pub use workspace::{Generator, Named, Workspace};
-
-#[cfg(test)]
-mod tests;

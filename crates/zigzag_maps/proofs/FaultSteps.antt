@@ -9,16 +9,16 @@ use Rattle.diagram_terms.specs.Dual.{dual}
 use Rattle.diagram_terms.specs.Decoded.{dia}
 use Rattle.diagram_terms.specs.Shape.{IsDiagram, IsArrow, reg_at, sing_at}
 use Rattle.diagram_terms.specs.Valid.{Valid}
-use Rattle.diagram_terms.specs.Places.{first_failure}
+use Rattle.diagram_terms.specs.Places.{further_in, first_failure}
 use Rattle.diagram_terms.proofs.Dimensions.{diagram_dimension, arrow_dimension, arrow_of_dimension}
 use Rattle.diagram_terms.proofs.Duals.{dual-le-length}
 use Rattle.diagram_terms.proofs.Glue.{dia-sings_len, dia-reg, dia-sing}
-use Rattle.zigzag_maps.proofs.Visiting.{first_failure-under}
+use Rattle.diagram_terms.proofs.Visiting.{first_failure-under}
 use Rattle.hashcons.specs.Contents.{Contents, Grows, IsStore, IsDiagramOf, IsArrowOf, diagram_at, arrow_at}
 use Rattle.zigzag_maps.specs.declared.map.Map.{Map}
 use Rattle.zigzag_maps.specs.Found.{IsValidDiagram, IsValidMap}
 use Rattle.zigzag_maps.specs.Trees.{IsValidTreeAt, IsValidTree}
-use Rattle.zigzag_maps.specs.Visits.{IsMapAt, FitsEnds, arrow_fault, place_in, reg_tests, sing_tests, tests_between}
+use Rattle.zigzag_maps.specs.Visits.{IsMapAt, FitsEnds, arrow_fault, reg_tests, sing_tests, tests_between}
 use Rattle.hashcons.proofs.ContentsLemmas.{Grows-refl}
 use Rattle.hashcons.proofs.Growth.{Grows-trans, diagram-kept, arrow-kept}
 use Rattle.zigzag_maps.proofs.KeepLemmas.{kept-grows}
@@ -124,17 +124,17 @@ module _ (c : Contents) (m s : Map) (source : IsDiagramOf c s.source) (target : 
   module _ (found : Option Place) (is : found ≡ first_failure (tests_between (diagram_at c s.source) (diagram_at c s.target) (arrow_at c s.arrow))) where
     pub reg_found : (j b : ℕ) → b ≡ dual (heights (arrow_at c m.arrow)) j
         → diagram_at c s.source ≡ reg_at (diagram_at c m.source) b → diagram_at c s.target ≡ reg_at (diagram_at c m.target) j → arrow_at c s.arrow ≡ reg_at (arrow_at c m.arrow) j
-        → option_map (place_in (step.R j)) found ≡ first_failure (reg_tests (diagram_at c m.source) (diagram_at c m.target) (arrow_at c m.arrow) j)
+        → option_map (further_in (step.R j)) found ≡ first_failure (reg_tests (diagram_at c m.source) (diagram_at c m.target) (arrow_at c m.arrow) j)
     reg_found j b e p q r =
-        ap (option_map (place_in (step.R j))) (is ∙ (λ i. first_failure (tests_between (p i) (q i) (r i)))
+        ap (option_map (further_in (step.R j))) (is ∙ (λ i. first_failure (tests_between (p i) (q i) (r i)))
         ∙ ap (λ n. first_failure (tests_between (reg_at (diagram_at c m.source) n) (reg_at (diagram_at c m.target) j) (reg_at (arrow_at c m.arrow) j))) e)
         ∙ sym (first_failure-under (step.R j) (tests_between (reg_at (diagram_at c m.source) (dual (heights (arrow_at c m.arrow)) j)) (reg_at (diagram_at c m.target) j) (reg_at (arrow_at c m.arrow) j)))
 
     pub sing_found : (i j : ℕ) → j ≡ get_or (heights (arrow_at c m.arrow)) i 0
         → diagram_at c s.source ≡ sing_at (diagram_at c m.source) i → diagram_at c s.target ≡ sing_at (diagram_at c m.target) j → arrow_at c s.arrow ≡ sing_at (arrow_at c m.arrow) i
-        → option_map (place_in (step.S i)) found ≡ first_failure (sing_tests (diagram_at c m.source) (diagram_at c m.target) (arrow_at c m.arrow) i)
+        → option_map (further_in (step.S i)) found ≡ first_failure (sing_tests (diagram_at c m.source) (diagram_at c m.target) (arrow_at c m.arrow) i)
     sing_found i j e p q r =
-        ap (option_map (place_in (step.S i))) (is ∙ (λ i. first_failure (tests_between (p i) (q i) (r i)))
+        ap (option_map (further_in (step.S i))) (is ∙ (λ i. first_failure (tests_between (p i) (q i) (r i)))
         ∙ ap (λ n. first_failure (tests_between (sing_at (diagram_at c m.source) i) (sing_at (diagram_at c m.target) n) (sing_at (arrow_at c m.arrow) i))) e)
         ∙ sym (first_failure-under (step.S i) (tests_between (sing_at (diagram_at c m.source) i) (sing_at (diagram_at c m.target) (get_or (heights (arrow_at c m.arrow)) i 0)) (sing_at (arrow_at c m.arrow) i)))
 

@@ -12,7 +12,7 @@ use Rattle.diagram_terms.proofs.Dimensions.{diagram_dimension}
 use Rattle.diagram_terms.proofs.FirstFaults.{no_bad_place}
 use Rattle.diagram_terms.proofs.Glue.{dia-sings_len, dia-reg, dia-sing, dia-fwd, dia-bwd}
 use Rattle.diagram_terms.proofs.Visiting.{append_fails, append_passes}
-use Rattle.zigzag_maps.proofs.Visiting.{under_passes, each_passes, same_each}
+use Rattle.zigzag_maps.proofs.Visiting.{passed_under, passed_each, same_each}
 use Rattle.zigzag_maps.specs.Trees.{IsValidTreeAt}
 use Rattle.zigzag_maps.specs.Visits.{diagram_fault}
 use Rattle.zigzag_maps.specs.Validity.{tests_in, reg_slice_tests, sing_slice_tests, fwd_tests, bwd_tests, leg_tests, HasValidParts}
@@ -102,9 +102,9 @@ module _ (d : ℕ) (t : Tree) (h : IsDiagram (suc d) t) where
       parts_valid_at : HasValidParts d t
       parts_valid_at = record {
         reg_slices = λ j l. valid_from d (reg_at t j) (h.regs_are j l)
-            (under_passes (step.R j) (tests_in (reg_at t j)) (each_passes (reg_slice_tests t) (suc (length (sings t))) regs_pass j (omega arith)));
+            (passed_under (step.R j) (tests_in (reg_at t j)) (passed_each (reg_slice_tests t) (suc (length (sings t))) regs_pass j (omega arith)));
         sing_slices = λ i l. valid_from d (sing_at t i) (h.sings_are i l)
-            (under_passes (step.S i) (tests_in (sing_at t i)) (each_passes (sing_slice_tests t) (length (sings t)) sings_pass i l));
+            (passed_under (step.S i) (tests_in (sing_at t i)) (passed_each (sing_slice_tests t) (length (sings t)) sings_pass i l));
       }
 
 -- ---- at a dimension that is a number of the program

@@ -4,15 +4,15 @@ use Rattle.diagram_terms.specs.declared.place.Place.{Place}
 use Rattle.diagram_terms.specs.declared.place.Step.TheVariants as step
 use Rattle.diagram_terms.specs.Tree.{Tree, sings}
 use Rattle.diagram_terms.specs.Shape.{IsDiagram, IsArrow, reg_at, sing_at, fwd_at, bwd_at}
-use Rattle.diagram_terms.specs.Places.{first_failure}
-use Rattle.zigzag_maps.proofs.Visiting.{first_failure-under}
+use Rattle.diagram_terms.specs.Places.{further_in, first_failure}
+use Rattle.diagram_terms.proofs.Visiting.{first_failure-under}
 use Rattle.hashcons.specs.Contents.{Contents, Grows, IsDiagramOf, IsArrowOf, diagram_at, arrow_at}
 use Rattle.hashcons.proofs.ContentsLemmas.{Grows-refl}
 use Rattle.hashcons.proofs.Growth.{Grows-trans, diagram-kept, arrow-kept}
 use Rattle.zigzag_maps.specs.declared.map.Map.{Map}
 use Rattle.zigzag_maps.specs.Found.{IsValidDiagram}
 use Rattle.zigzag_maps.specs.Trees.{IsValidTreeAt}
-use Rattle.zigzag_maps.specs.Visits.{IsMapAt, place_in, tests_between}
+use Rattle.zigzag_maps.specs.Visits.{IsMapAt, tests_between}
 use Rattle.zigzag_maps.specs.Validity.{IsDiagramAt, HasValidParts, tests_in, reg_slice_tests, sing_slice_tests, fwd_tests, bwd_tests}
 use Rattle.zigzag_maps.proofs.KeepLemmas.{kept-grows}
 use Rattle.zigzag_maps.proofs.ValidityLemmas.{valid_from, valid_passes}
@@ -57,14 +57,14 @@ module _ (c : Contents) (d s : ℕ) (slice : IsDiagramOf c s) where
 
   -- what was found in a slice
   module _ (found : Option Place) (is : found ≡ first_failure (tests_in (diagram_at c s))) where
-    pub reg_slice_found : (j : ℕ) → diagram_at c s ≡ reg_at (diagram_at c d) j → option_map (place_in (step.R j)) found ≡ first_failure (reg_slice_tests (diagram_at c d) j)
+    pub reg_slice_found : (j : ℕ) → diagram_at c s ≡ reg_at (diagram_at c d) j → option_map (further_in (step.R j)) found ≡ first_failure (reg_slice_tests (diagram_at c d) j)
     reg_slice_found j e =
-        ap (option_map (place_in (step.R j))) (is ∙ ap (λ t. first_failure (tests_in t)) e)
+        ap (option_map (further_in (step.R j))) (is ∙ ap (λ t. first_failure (tests_in t)) e)
         ∙ sym (first_failure-under (step.R j) (tests_in (reg_at (diagram_at c d) j)))
 
-    pub sing_slice_found : (i : ℕ) → diagram_at c s ≡ sing_at (diagram_at c d) i → option_map (place_in (step.S i)) found ≡ first_failure (sing_slice_tests (diagram_at c d) i)
+    pub sing_slice_found : (i : ℕ) → diagram_at c s ≡ sing_at (diagram_at c d) i → option_map (further_in (step.S i)) found ≡ first_failure (sing_slice_tests (diagram_at c d) i)
     sing_slice_found i e =
-        ap (option_map (place_in (step.S i))) (is ∙ ap (λ t. first_failure (tests_in t)) e)
+        ap (option_map (further_in (step.S i))) (is ∙ ap (λ t. first_failure (tests_in t)) e)
         ∙ sym (first_failure-under (step.S i) (tests_in (sing_at (diagram_at c d) i)))
 
 -- ---- the legs
@@ -102,13 +102,13 @@ module _ (c : Contents) (d : ℕ) (m : Map) (source : IsDiagramOf c m.source) (t
   -- what was found in a leg
   module _ (found : Option Place) (is : found ≡ first_failure (tests_between (diagram_at c m.source) (diagram_at c m.target) (arrow_at c m.arrow))) where
     pub fwd_found : (k : ℕ) → diagram_at c m.source ≡ reg_at (diagram_at c d) k → diagram_at c m.target ≡ sing_at (diagram_at c d) k → arrow_at c m.arrow ≡ fwd_at (diagram_at c d) k
-        → option_map (place_in (step.F k)) found ≡ first_failure (fwd_tests (diagram_at c d) k)
+        → option_map (further_in (step.F k)) found ≡ first_failure (fwd_tests (diagram_at c d) k)
     fwd_found k p q r =
-        ap (option_map (place_in (step.F k))) (is ∙ (λ i. first_failure (tests_between (p i) (q i) (r i))))
+        ap (option_map (further_in (step.F k))) (is ∙ (λ i. first_failure (tests_between (p i) (q i) (r i))))
         ∙ sym (first_failure-under (step.F k) (tests_between (reg_at (diagram_at c d) k) (sing_at (diagram_at c d) k) (fwd_at (diagram_at c d) k)))
 
     pub bwd_found : (k : ℕ) → diagram_at c m.source ≡ reg_at (diagram_at c d) (suc k) → diagram_at c m.target ≡ sing_at (diagram_at c d) k → arrow_at c m.arrow ≡ bwd_at (diagram_at c d) k
-        → option_map (place_in (step.B k)) found ≡ first_failure (bwd_tests (diagram_at c d) k)
+        → option_map (further_in (step.B k)) found ≡ first_failure (bwd_tests (diagram_at c d) k)
     bwd_found k p q r =
-        ap (option_map (place_in (step.B k))) (is ∙ (λ i. first_failure (tests_between (p i) (q i) (r i))))
+        ap (option_map (further_in (step.B k))) (is ∙ (λ i. first_failure (tests_between (p i) (q i) (r i))))
         ∙ sym (first_failure-under (step.B k) (tests_between (reg_at (diagram_at c d) (suc k)) (sing_at (diagram_at c d) k) (bwd_at (diagram_at c d) k)))

@@ -18,7 +18,7 @@ use Rattle.diagram_terms.proofs.FirstFaults.{none_iff_all_pass, arrow_passes}
 use Rattle.diagram_terms.proofs.Glue.{dia-sings_len, dia-reg, dia-sing, arr-regs_len, arr-reg, arr-sing}
 use Rattle.diagram_terms.proofs.Shapes.{dia-point, arr-ends, IsArrow-ends}
 use Rattle.diagram_terms.proofs.Visiting.{append_fails, append_passes, here_passes}
-use Rattle.zigzag_maps.proofs.Visiting.{under_passes, each_passes, same_each}
+use Rattle.zigzag_maps.proofs.Visiting.{passed_under, passed_each, same_each}
 use Rattle.zigzag_maps.specs.Trees.{IsArrowBetweenAt}
 use Rattle.zigzag_maps.specs.Visits.{tests_between, reg_tests, sing_tests, square_holds, square_tests, lengths_are, FitsEnds, HasValidSlices}
 
@@ -177,10 +177,10 @@ module _ (d : ℕ) (s t f : Tree) (hs : IsDiagram (suc d) s) (ht : IsDiagram (su
           fits = record { heights_len = a; regs_len = b };
           regs = λ j l. between_from d _ _ _
               (hs.regs_are (dual (heights f) j) (omega (arith, dual-le-length (heights f) j))) (ht.regs_are j (omega arith)) (hf.regs_are j l)
-              (under_passes (step.R j) (tests_between (reg_at s (dual (heights f) j)) (reg_at t j) (reg_at f j)) (each_passes (reg_tests s t f) (suc (length (sings t))) regs_pass j (omega arith)));
+              (passed_under (step.R j) (tests_between (reg_at s (dual (heights f) j)) (reg_at t j) (reg_at f j)) (passed_each (reg_tests s t f) (suc (length (sings t))) regs_pass j (omega arith)));
           sings = λ i l. between_from d _ _ _
               (hs.sings_are i (omega arith)) (ht.sings_are (get_or (heights f) i 0) (omega (arith, hf.below i l))) (hf.sings_are i (omega (arith, hf.sings_len)))
-              (under_passes (step.S i) (tests_between (sing_at s i) (sing_at t (get_or (heights f) i 0)) (sing_at f i)) (each_passes (sing_tests s t f) (length (sings s)) sings_pass i (omega arith)));
+              (passed_under (step.S i) (tests_between (sing_at s i) (sing_at t (get_or (heights f) i 0)) (sing_at f i)) (passed_each (sing_tests s t f) (length (sings s)) sings_pass i (omega arith)));
         }
 
 -- ---- at a dimension that is a number of the program

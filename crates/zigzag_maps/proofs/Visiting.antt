@@ -1,31 +1,19 @@
 -- The first failure of tests that are visited a step further in, and height by height.
 use Rattle.std.proofs.Common.{◌≡◌, ℕ, zero, suc, ◌+◌, ◌-◌, ◌<◌, ◌≤◌, List, [], ◌∷◌, ◌++◌, flat_map, option_map, None, Some, refl, sym, ap, ◌∙◌, inl, inr, arith}
 use Rattle.std.specs.List.{range_with_len}
-use Rattle.std.proofs.lemmas.Bool.{cases_Bool}
 use Rattle.std.proofs.lemmas.List.{append-nil}
 use Rattle.diagram_terms.specs.declared.place.Place.{Place}
 use Rattle.diagram_terms.specs.declared.place.Step.{Step}
-use Rattle.diagram_terms.specs.Places.{Test, under, at_each, one_step_in, first_failure}
+use Rattle.diagram_terms.specs.Places.{Test, under, at_each, first_failure}
 use Rattle.diagram_terms.proofs.Decisions.{passes_each, passes_under}
-use Rattle.diagram_terms.proofs.FirstFaults.{first_failed, first_passed, none_iff_all_pass}
+use Rattle.diagram_terms.proofs.FirstFaults.{none_iff_all_pass}
 use Rattle.diagram_terms.proofs.Visiting.{append_passes, append_fails}
 
 -- ---- a step further in
 
--- the place that is one step further in
-abbrev pub one_in : Step → Place → Place
-one_in s p = record { steps = s ∷ p.steps; end = p.end }
-
-pub first_failure-under : (s : Step) (ts : List Test) → first_failure (under s ts) ≡ option_map (one_in s) (first_failure ts)
-first_failure-under s [] = refl
-first_failure-under s (t ∷ ts) = elim (cases_Bool t.holds) [
-  | inl h ↦ first_passed (one_step_in s t) (under s ts) h ∙ first_failure-under s ts ∙ ap (option_map (one_in s)) (sym (first_passed t ts h))
-  | inr h ↦ first_failed (one_step_in s t) (under s ts) h ∙ ap (option_map (one_in s)) (sym (first_failed t ts h))
-]
-
 -- what passes a step further in passes
-pub under_passes : (s : Step) (ts : List Test) → first_failure (under s ts) ≡ None → first_failure ts ≡ None
-under_passes s ts e = (none_iff_all_pass ts).1 ((passes_under s ts).0 ((none_iff_all_pass (under s ts)).0 e))
+pub passed_under : (s : Step) (ts : List Test) → first_failure (under s ts) ≡ None → first_failure ts ≡ None
+passed_under s ts e = (none_iff_all_pass ts).1 ((passes_under s ts).0 ((none_iff_all_pass (under s ts)).0 e))
 
 -- ---- height by height
 
@@ -58,8 +46,8 @@ module _ (tests : ℕ → List Test) (n : ℕ) where
       ap (λ m. first_failure (flat_map tests (range_with_len k m))) z ∙ ap first_failure (append-nil (tests k))
 
   -- no height fails where there is no first failure
-  pub each_passes : first_failure (at_each n tests) ≡ None → (k : ℕ) → k < n → first_failure (tests k) ≡ None
-  each_passes e k l = (none_iff_all_pass (tests k)).1 ((passes_each n tests).0 ((none_iff_all_pass (at_each n tests)).0 e) k l)
+  pub passed_each : first_failure (at_each n tests) ≡ None → (k : ℕ) → k < n → first_failure (tests k) ≡ None
+  passed_each e k l = (none_iff_all_pass (tests k)).1 ((passes_each n tests).0 ((none_iff_all_pass (at_each n tests)).0 e) k l)
 
 -- the tests of equal heights are equal
 same_from : (f g : ℕ → List Test) (k n : ℕ) → ((j : ℕ) → k ≤ j → j < k + n → f j ≡ g j) → flat_map f (range_with_len k n) ≡ flat_map g (range_with_len k n)

@@ -21,10 +21,6 @@ abbrev pub fault_of : SquareTest → Option Place
 fault_of test.Valid = None
 fault_of (test.Fault p) = Some p
 
--- the place that is one step further in
-abbrev pub place_in : Step → Place → Place
-place_in s p = record { steps = s ∷ p.steps; end = p.end }
-
 -- ---- an arrow and its ends, all of one dimension
 
 -- the tests of an arrow f from s to t

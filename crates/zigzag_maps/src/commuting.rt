@@ -7,10 +7,9 @@ ghost use Rattle.zigzag_maps.specs.Keeps.{AreRight};
 ghost use Rattle.zigzag_maps.specs.Visits.{IsValidSlicewise, square_tests, square_holds, first_edge, last_edge, edge_before, edge_behind};
 
 use crate::composites::{composite, dual_from};
-use crate::faults::place_here;
 use crate::kept::Kept;
 use crate::map::Map;
-use diagram_terms::{End, Place};
+use diagram_terms::{End, Place, place_here};
 use hashcons::{ArrowId, Store};
 use std::alloc::{AllocError, Global};
 

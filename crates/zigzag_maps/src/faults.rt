@@ -1,19 +1,19 @@
-ghost use Rattle.std.specs.Prelude.{◌≡◌, ◌↔◌, ◌+◌, ◌-◌, ◌<◌, ◌≤◌, IfOk, length, suc, Some, [], option_map};
+ghost use Rattle.std.specs.Prelude.{◌≡◌, ◌↔◌, ◌+◌, ◌-◌, ◌<◌, ◌≤◌, IfOk, length, suc, Some, option_map};
 ghost use Rattle.diagram_terms.specs.Dual.{dual};
 ghost use Rattle.diagram_terms.specs.Dimension.{dimension_of};
-ghost use Rattle.diagram_terms.specs.Places.{at_each, ends_hold, first_failure, here};
+ghost use Rattle.diagram_terms.specs.Places.{at_each, ends_hold, first_failure, further_in, here};
 ghost use Rattle.diagram_terms.specs.Tree.{heights, regs, sings};
 ghost use Rattle.hashcons.specs.Contents.{IsDiagramOf, IsArrowOf, Grows, IsStore, diagram_at, arrow_at};
 ghost use Rattle.zigzag_maps.specs.Found.{IsValidDiagram, IsValidMap};
 ghost use Rattle.zigzag_maps.specs.Keeps.{AreRight};
-ghost use Rattle.zigzag_maps.specs.Visits.{IsMapAt, FitsEnds, HasValidSlices, arrow_fault, fault_of, lengths_are, place_in, reg_tests, sing_tests, square_tests, square_holds, tests_between};
+ghost use Rattle.zigzag_maps.specs.Visits.{IsMapAt, FitsEnds, HasValidSlices, arrow_fault, fault_of, lengths_are, reg_tests, sing_tests, square_tests, square_holds, tests_between};
 
 use crate::commuting::square_fault;
 use crate::composites::dual_from;
 use crate::kept::Kept;
 use crate::map::Map;
 use crate::outcome::SquareTest;
-use diagram_terms::{End, Items, Label, Place, Step};
+use diagram_terms::{End, Label, Place, Step, place_here, place_under};
 use hashcons::{AnyId, Store};
 use std::alloc::{AllocError, Global};
 
@@ -48,34 +48,18 @@ pub(crate) fn outcome_of(found: Option<Place>) -> SquareTest
     }
 }
 
-/// The place right here, with no step to it.
-pub fn place_here(alloc: Global, end: End) -> Place
-    ensures { result ≡ record { steps = []; end = end } }
-{
-    Place {
-        steps: Items::new(alloc),
-        end,
-    }
-}
-
 /// What was found, as seen from one step further out.
 pub fn found_in(
     alloc: Global,
     step: Step,
     found: Option<Place>,
 ) -> Result<Option<Place>, AllocError>
-    ensures { IfOk result (λ place. place ≡ option_map (place_in step) found) }
+    ensures { IfOk result (λ place. place ≡ option_map (further_in step) found) }
 {
-    let Some(place) = found else {
-        return Ok(None);
-    };
-    let mut steps = Items::new(alloc);
-    steps.push(step)?;
-    steps.append(place.steps)?;
-    Ok(Some(Place {
-        steps,
-        end: place.end,
-    }))
+    match found {
+        None => Ok(None),
+        Some(place) => Ok(Some(place_under(alloc, step, place)?)),
+    }
 }
 
 /// Where an arrow of dimension `dim` between valid diagrams of that dimension fails first, worked

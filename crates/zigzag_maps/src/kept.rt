@@ -3,9 +3,10 @@ use hashcons::{ArrowId, DiagramId};
 use std::alloc::{AllocError, Global};
 use std::collections::{HashMap, HashSet};
 
-/// What was found out about the ids of a store, so that no call works it out twice.
+/// What was found out about the ids of a store, so that it is not worked out twice: identities,
+/// composites, valid diagrams and valid maps. It stays right while the store grows.
 #[derive(Drop)]
-pub(crate) struct Kept {
+pub struct Kept {
     identities: HashMap<DiagramId, ArrowId>,
     composites: HashMap<(ArrowId, ArrowId), ArrowId>,
     valid_diagrams: HashSet<DiagramId>,
@@ -18,7 +19,8 @@ impl Kept {
     ghost use Rattle.zigzag_maps.specs.Found.{IsIdentityOf, IsCompositeOf, IsValidDiagram, IsValidMap};
     ghost use Rattle.zigzag_maps.specs.Keeps.{AreRight};
 
-    pub(crate) fn new(alloc: Global) -> Kept
+    /// Nothing yet. It takes no memory.
+    pub fn new(alloc: Global) -> Kept
         ensures { (c : Contents) → AreRight c result }
     {
         Kept {

@@ -11,11 +11,9 @@ mod outcome;
 mod validity;
 
 pub use composites::compose;
-pub use faults::{found_in, place_here, squares};
+pub use faults::{found_in, squares};
 pub use identities::identity;
+pub use kept::Kept;
 pub use map::Map;
 pub use outcome::SquareTest;
-pub use validity::valid;
-
-#[cfg(test)]
-mod tests;
+pub use validity::{valid, valid_keeping};

@@ -23,9 +23,28 @@ pub fn valid(alloc: Global, store: &mut Store, d: DiagramId) -> Result<SquareTes
     ensures grows { Grows store.old store.new }
     ensures store { IsStore store.new }
 {
-    let dim = store.dim(AnyId::Diagram(d));
     let mut kept = Kept::new(alloc);
-    let found = diagram_fault(alloc, store, &mut kept, dim, d)?;
+    valid_keeping(alloc, store, &mut kept, d)
+}
+
+/// The same, over what earlier tests of this store found out: that is not worked out again, and what
+/// this test finds out is kept besides.
+pub fn valid_keeping(
+    alloc: Global,
+    store: &mut Store,
+    kept: &mut Kept,
+    d: DiagramId,
+) -> Result<SquareTest, AllocError>
+    requires of_store { IsDiagramOf store.old d }
+    requires kept { AreRight store.old kept.old }
+    ensures exact { IfOk result (λ test. fault_of test ≡ diagram_fault_of (diagram_at store.old d)) }
+    ensures yes { IfOk result (λ test. (test ≡ SquareTest.Valid) ↔ IsValidDiagram store.new d) }
+    ensures kept { AreRight store.new kept.new }
+    ensures grows { Grows store.old store.new }
+    ensures store { IsStore store.new }
+{
+    let dim = store.dim(AnyId::Diagram(d));
+    let found = diagram_fault(alloc, store, kept, dim, d)?;
     Ok(outcome_of(found))
 }
 

@@ -1,0 +1,3 @@
+mod boundaries;
+mod loose_legs;
+mod verdicts;

@@ -1,0 +1,136 @@
+use session_undo::{NothingToRedo, NothingToUndo, Session};
+use std::alloc::Global;
+use std::process::Abort;
+use std::test::Fail;
+use workspace_json::{FormFault, read_command, reply_text};
+use workspace_lists::Counts;
+
+/// A command, and the reply to it.
+type Step = (&'static str, &'static str);
+
+/// Point x, loop f of x, the identity of f, the end of f, two cells between loops, and refusals in between.
+const CHANGES: [Step; 14] = [
+    (
+        "{\"do\":\"generator\",\"name\":\"x\"}",
+        "{\"dim\":0,\"name\":\"x\",\"number\":0,\"ok\":\"generator\"}",
+    ),
+    (
+        "{\"do\":\"generator\",\"name\":\"f\",\"source\":\"x\",\"target\":\"x\"}",
+        "{\"dim\":1,\"name\":\"f\",\"number\":1,\"ok\":\"generator\"}",
+    ),
+    (
+        "{\"do\":\"generator\",\"name\":\"g\",\"source\":\"x\",\"target\":\"f\"}",
+        "{\"refused\":\"DimDiffers\"}",
+    ),
+    (
+        "{\"do\":\"generator\",\"name\":\"g\",\"source\":\"x\",\"target\":\"h\"}",
+        "{\"name\":\"h\",\"refused\":\"Unknown\"}",
+    ),
+    (
+        "{\"do\":\"generator\",\"name\":\"f\",\"source\":\"x\",\"target\":\"h\"}",
+        "{\"refused\":\"NameTaken\"}",
+    ),
+    (
+        "{\"do\":\"identity\",\"name\":\"loop\",\"of\":\"f\"}",
+        "{\"dim\":2,\"length\":0,\"name\":\"loop\",\"ok\":\"identity\"}",
+    ),
+    (
+        "{\"do\":\"boundary\",\"name\":\"end\",\"of\":\"f\",\"side\":\"target\"}",
+        "{\"dim\":0,\"length\":0,\"name\":\"end\",\"ok\":\"boundary\"}",
+    ),
+    (
+        "{\"do\":\"boundary\",\"name\":\"no\",\"of\":\"x\",\"side\":\"source\"}",
+        "{\"refused\":\"NoHeight\",\"step\":0}",
+    ),
+    (
+        "{\"do\":\"generator\",\"name\":\"a\",\"source\":\"f\",\"target\":\"f\"}",
+        "{\"dim\":2,\"name\":\"a\",\"number\":2,\"ok\":\"generator\"}",
+    ),
+    (
+        "{\"do\":\"equal\",\"one\":\"end\",\"two\":\"x\"}",
+        "{\"ok\":\"equal\",\"value\":true}",
+    ),
+    (
+        "{\"do\":\"drop\",\"name\":\"a\"}",
+        "{\"name\":\"a\",\"refused\":\"Unknown\"}",
+    ),
+    (
+        "{\"do\":\"drop\",\"name\":\"end\"}",
+        "{\"name\":\"end\",\"ok\":\"drop\"}",
+    ),
+    ("{\"do\":\"redo\"}", "{\"refused\":\"NothingToRedo\"}"),
+    (
+        "{\"do\":\"stats\"}",
+        "{\"arrows\":1,\"diagrams\":4,\"generators\":3,\"maps\":0,\"named\":1,\"ok\":\"stats\"}",
+    ),
+];
+
+/// Whether the session answers a command with this reply.
+fn is_answered(
+    alloc: Global,
+    session: &mut Session,
+    command: &str,
+    want: &str,
+) -> Result<bool, Fail> {
+    match read_command(alloc, command.as_bytes()) {
+        Ok(command) => {
+            let reply = session.apply(&command)?;
+            Ok(reply_text(alloc, &reply)?.as_slice() == want.as_bytes())
+        }
+        Err(FormFault::NoMemory) => Err(Fail::from("no memory")),
+        Err(_) => Ok(false),
+    }
+}
+
+/// A session with these changes.
+fn changed(rt: &(impl Abort + AllocGlobal)) -> Result<Session, Fail> {
+    let mut session = Session::new(rt.alloc());
+    for (command, want) in &CHANGES {
+        assert!(rt;
+            is_answered(rt.alloc(), &mut session, command, want)?,
+            "{command}"
+        );
+    }
+    Ok(session)
+}
+
+#[test]
+fn changes_and_reads(rt: HostRuntime) -> Result<(), Fail> {
+    let session = changed(&rt)?;
+    assert_eq!(rt; session.equal("loop", "f"), Some(false));
+    assert_eq!(rt; session.equal("loop", "loop"), Some(true));
+    assert_eq!(rt; session.equal("loop", "end"), None);
+    let counts = Counts {
+        generators: 3,
+        named: 1,
+        maps: 0,
+        diagrams: 4,
+        arrows: 1,
+    };
+    assert_eq!(rt; session.stats()?, counts);
+    assert_eq!(rt; session.workspace().generators.len(), 3);
+    assert_eq!(rt; session.workspace().diagrams.len(), 1);
+    Ok(())
+}
+
+#[test]
+fn undoes_and_redoes(rt: HostRuntime) -> Result<(), Fail> {
+    let mut session = changed(&rt)?;
+    assert_eq!(rt; session.redo(), Err(NothingToRedo));
+    assert_eq!(rt; session.undo(), Ok(()));
+    assert_eq!(rt; session.equal("end", "x"), Some(true));
+    assert_eq!(rt; session.undo(), Ok(()));
+    assert_eq!(rt; session.equal("a", "a"), None);
+    assert_eq!(rt; session.redo(), Ok(()));
+    assert_eq!(rt; session.equal("a", "a"), Some(true));
+    for _ in 0..5 {
+        assert_eq!(rt; session.undo(), Ok(()));
+    }
+    assert_eq!(rt; session.undo(), Err(NothingToUndo));
+    assert_eq!(rt; session.workspace().generators.len(), 0);
+    let point = "{\"do\":\"generator\",\"name\":\"y\"}";
+    let made = "{\"dim\":0,\"name\":\"y\",\"number\":0,\"ok\":\"generator\"}";
+    assert!(rt; is_answered(rt.alloc(), &mut session, point, made)?);
+    assert_eq!(rt; session.redo(), Err(NothingToRedo));
+    Ok(())
+}

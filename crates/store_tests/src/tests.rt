@@ -1,0 +1,5 @@
+mod heights;
+mod identities;
+mod labels;
+mod store;
+mod trees;

@@ -1,0 +1,2 @@
+mod commands_and_replies;
+mod documents;
