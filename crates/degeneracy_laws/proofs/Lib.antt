@@ -1,0 +1,14 @@
+pub mod Cancellation
+pub mod Degeneracies
+pub mod FactorArrow
+pub mod FactorSlices
+pub mod Factors
+pub mod Leasts
+pub mod MissedHeights
+pub mod Rivals
+pub mod Samples
+pub mod ShapeComposites
+pub mod Shapes
+pub mod SplitParts
+pub mod Splits
+pub mod UniqueSplits
