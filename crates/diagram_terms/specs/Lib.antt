@@ -21,6 +21,16 @@ pub mod GeneratorTypes
 pub mod Valid
 pub mod Degeneracy
 pub mod Least
+pub mod Regions
+pub mod Preimages
+pub mod ClosedRegions
+pub mod Paths
+pub mod PointRegions
+pub mod PointOrder
+pub mod Cuts
+pub mod CutsOfCuts
+pub mod Neighbourhoods
+pub mod PulledPoints
 pub mod Places
 pub mod Levels
 pub mod Nodes

@@ -1,0 +1,4 @@
+pub mod PreimageCases
+pub mod PointsInCuts
+pub mod PulledPoints
+pub mod Laws
