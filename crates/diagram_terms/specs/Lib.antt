@@ -17,6 +17,7 @@ pub mod Plain
 pub mod Loose
 pub mod Points
 pub mod Typing
+pub mod Obstacles
 pub mod GeneratorTypes
 pub mod Valid
 pub mod Degeneracy

@@ -45,11 +45,12 @@ point_fault generators n p =
     then (if has_type n p then None else Some (fault.TypeAt p.heights))
     else Some (fault.LabelAt p.heights)
 
--- the first fault of two, or of points in order
-abbrev pub first_of : Option Fault → Option Fault → Option Fault
+-- the first of two that is there
+abbrev pub first_of : {A : Type 0} → Option A → Option A → Option A
 first_of None later = later
-first_of (Some f) later = Some f
+first_of (Some x) later = Some x
 
+-- the first fault of points in order
 abbrev pub first_point_fault : List Generator → ℕ → List Point → Option Fault
 first_point_fault generators n [] = None
 first_point_fault generators n (p ∷ ps) = first_of (point_fault generators n p) (first_point_fault generators n ps)

@@ -1,5 +1,6 @@
-ghost use Rattle.std.specs.Prelude.{◌≡◌, string_bytes};
+ghost use Rattle.std.specs.Prelude.{◌≡◌, string_bytes, IfOk};
 
+use std::alloc::{AllocError, Global};
 use std::marker::Model;
 
 /// A `String` that contracts see as the list of its bytes.
@@ -22,6 +23,20 @@ impl Text {
         ensures { result ≡ string_bytes text }
     {
         Text { text }
+    }
+
+    /// A copy of the slice.
+    pub fn from_str(alloc: Global, text: &str) -> Result<Text, AllocError>
+        ensures { IfOk result (λ copy. copy ≡ text.now) }
+    {
+        Ok(Text::from_string(String::from_str(alloc, text)?))
+    }
+
+    /// The same text again.
+    pub fn copy(&self, alloc: Global) -> Result<Text, AllocError>
+        ensures { IfOk result (λ copy. copy ≡ self.now) }
+    {
+        Text::from_str(alloc, self.as_str())
     }
 
     /// The text as a slice.
