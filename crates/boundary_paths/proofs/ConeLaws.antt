@@ -19,7 +19,7 @@ use Rattle.hashcons.specs.Contents.{Contents, Grows, IsDiagramOf, diagram_at, ar
 use Rattle.zigzag_maps.specs.declared.map.Map.{Map}
 use Rattle.zigzag_maps.specs.Found.{IsValidDiagram, IsValidMap}
 use Rattle.plain_maps.specs.Plainness.{IsPlainTree, IsPlainDiagramTree}
-use Rattle.zigzag_maps.specs.Trees.{IsValidTreeAt, IsValidTree, IsArrowBetween}
+use Rattle.diagram_terms.specs.ValidTrees.{IsValidTreeAt, IsValidTree, IsArrowBetween}
 use Rattle.zigzag_maps.proofs.KeepLemmas.{valid_diagram-grows, between_same}
 use Rattle.boundary_paths.specs.Keeps.{IsConeOf}
 use Rattle.diagram_terms.specs.ConeTrees.{cone_tree, mid_tree, type_tree, HasLabelsBelowTree}

@@ -14,7 +14,7 @@ use Rattle.hashcons.specs.Gathers.{Gathers}
 use Rattle.hashcons.proofs.ContentsLemmas.{Grows-refl}
 use Rattle.hashcons.proofs.Growth.{Grows-trans, diagram-kept, arrow-kept, diagram_at-kept, arrow_at-kept, gathers-arrows_grow, gathers-picked}
 use Rattle.zigzag_maps.specs.declared.map.Map.{Map}
-use Rattle.zigzag_maps.specs.Trees.{identity_tree}
+use Rattle.diagram_terms.specs.Operations.{identity_tree}
 use Rattle.zigzag_maps.proofs.KeepLemmas.{identity-grows}
 use Rattle.boundary_paths.specs.declared.kept.Kept.{Kept}
 use Rattle.boundary_paths.specs.Keeps.{IsConeOf, HasIdentities, AreRight}

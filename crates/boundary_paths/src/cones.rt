@@ -9,7 +9,7 @@ ghost use Rattle.hashcons.specs.Contents.{IsDiagramOf, IsArrowOf, Grows, IsStore
 ghost use Rattle.hashcons.specs.Gathers.{Gathers};
 ghost use Rattle.zigzag_maps.specs.Found.{IsValidDiagram, IsValidMap};
 ghost use Rattle.plain_maps.specs.Plainness.{IsPlainTree, IsPlainDiagramTree};
-ghost use Rattle.zigzag_maps.specs.Trees.{identity_tree};
+ghost use Rattle.diagram_terms.specs.Operations.{identity_tree};
 ghost use Rattle.boundary_paths.specs.Keeps.{IsConeOf, HasIdentities, AreRight};
 ghost use Rattle.diagram_terms.specs.ConeTrees.{cone_tree, mid_tree, type_tree, HasLabelsBelowTree};
 

@@ -14,7 +14,7 @@ use Rattle.hashcons.specs.Ids.{IsOf}
 use Rattle.hashcons.specs.Contents.{Contents, IsDiagramOf, diagram_at}
 use Rattle.zigzag_maps.specs.Found.{IsValidDiagram}
 use Rattle.plain_maps.specs.Plainness.{IsPlainDiagramTree}
-use Rattle.zigzag_maps.specs.Trees.{IsValidTree}
+use Rattle.diagram_terms.specs.ValidTrees.{IsValidTree}
 use Rattle.diagram_terms.specs.ConeTrees.{HasLabelsBelowTree}
 
 valid-point : (x : Label) → IsValidTree (point x)

@@ -15,10 +15,12 @@ pub mod HeldDiagrams
 pub mod Injections
 pub mod LooseTests
 pub mod MonotoneParts
+pub mod NextSteps
 pub mod NodeForms
 pub mod NodeGrowth
 pub mod NodeShapes
 pub mod NodeTests
+pub mod NotionsOnTrees
 pub mod Parts
 pub mod PrintedForms
 pub mod Printing

@@ -7,7 +7,9 @@ pub mod Shape
 pub mod Dimension
 pub mod Completion
 pub mod Slices
+pub mod OnTrees
 pub mod Composite
+pub mod Operations
 pub mod Cone
 pub mod ConeTrees
 pub mod Composable
@@ -20,6 +22,7 @@ pub mod Typing
 pub mod Obstacles
 pub mod GeneratorTypes
 pub mod Valid
+pub mod ValidTrees
 pub mod Degeneracy
 pub mod Least
 pub mod Regions
@@ -33,6 +36,7 @@ pub mod CutsOfCuts
 pub mod Neighbourhoods
 pub mod PulledPoints
 pub mod Places
+pub mod Order
 pub mod Levels
 pub mod Nodes
 pub mod Values

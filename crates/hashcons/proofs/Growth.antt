@@ -1,21 +1,30 @@
 -- For callers: what a store that grew still holds, and loops that gather ids while it grows.
-use Rattle.std.proofs.Common.{◌≡◌, ℕ, ◌<◌, ◌+◌, List, [], ◌∷◌, ◌++◌, length, get_or, refl, sym, subst, ◌∙◌, arith, inl, inr, ◌⊎◌}
+use Rattle.std.proofs.Common.{◌≡◌, ℕ, ◌<◌, ◌+◌, List, [], ◌∷◌, ◌++◌, length, get_or, refl, sym, ap, subst, ◌∙◌, arith, inl, inr, ◌⊎◌, Result, Ok}
 use Rattle.std.proofs.lemmas.List.{length_push, get_or_append_left, get_or_push}
 use Rattle.std.proofs.lemmas.List.FromFn.{fill_by_all}
 use Rattle.diagram_terms.specs.Tree.{Tree, nil}
 use Rattle.diagram_terms.specs.Dual.{AreBelow, tab}
 use Rattle.diagram_terms.specs.Nodes.{picked}
-use Rattle.hashcons.specs.Contents.{Contents, Grows, IsDiagramOf, IsArrowOf, diagram_at, arrow_at}
+use Rattle.hashcons.specs.declared.id.AnyId.{AnyId}
+use Rattle.hashcons.specs.Contents.{Contents, Grows, IsStore, IsIdentityOf, IsCompositeOf, IsDiagramOf, IsArrowOf, diagram_at, arrow_at}
 use Rattle.hashcons.specs.Gathers.{Gathers}
+use Rattle.diagram_terms.specs.Operations.{identity_tree, composite_tree}
+use Rattle.hashcons.specs.Made.{Makes, MakesArrow, MakesArrows}
+use Rattle.hashcons.specs.Nodes.{AreArrowChildren}
+use Rattle.smallvec.specs.SmallVec.{SmallVec}
 use Rattle.hashcons.proofs.TableLemmas.{length-picked, get_or-picked}
 use Rattle.hashcons.proofs.ContentsLemmas.{Grows-refl}
+use Rattle.hashcons.proofs.FillLemmas.{id-kept}
 
 pub Grows-trans : (a b c : Contents) → Grows a b → Grows b c → Grows a c
 Grows-trans a b c g h = record {
+  store = λ s. h.store (g.store s);
   diagrams = λ d l. h.diagrams d (g.diagrams d l);
   arrows = λ x l. h.arrows x (g.arrows x l);
   diagram_trees = λ d l. h.diagram_trees d (g.diagrams d l) ∙ g.diagram_trees d l;
   arrow_trees = λ x l. h.arrow_trees x (g.arrows x l) ∙ g.arrow_trees x l;
+  identities = λ d x e. h.identities d x (g.identities d x e);
+  composites = λ x y z e. h.composites x y z (g.composites x y z e);
 }
 
 -- an id of a store is one of the store that grew, with the same tree
@@ -31,7 +40,49 @@ diagram_at-kept old new d g l = g.diagram_trees d l
 pub arrow_at-kept : (old new : Contents) (a : ℕ) → Grows old new → IsArrowOf old a → arrow_at new a ≡ arrow_at old a
 arrow_at-kept old new a g l = g.arrow_trees a l
 
-pub ruleset growth = (Grows-refl, Grows-trans, diagram-kept, arrow-kept, diagram_at-kept, arrow_at-kept)
+pub store-kept : (old new : Contents) → Grows old new → IsStore old → IsStore new
+store-kept old new g s = g.store s
+
+pub ruleset growth = (Grows-refl, Grows-trans, store-kept, diagram-kept, arrow-kept, diagram_at-kept, arrow_at-kept)
+
+-- ---- what a call answered with
+
+module _ {X E : Type 0} (name : X → AnyId) where
+  -- as the answer of a call that answers with ids of either kind
+  pub Makes-named : (old new : Contents) (t u : Tree) (x : X) → t ≡ u → Makes {E = E} name old new t (Ok x) → Makes {E = E} (λ y. y) old new u (Ok (name x))
+  Makes-named old new t u x e m = record { grows = m.grows; of_store = m.of_store; tree = m.tree ∙ e }
+
+  -- seen from an earlier store
+  pub Makes-after : (old mid new : Contents) (t : Tree) (r : Result X E) → Grows old mid → Makes name mid new t r → Makes name old new t r
+  Makes-after old mid new t r g m = record { grows = Grows-trans old mid new g m.grows; of_store = m.of_store; tree = m.tree }
+
+  -- seen from a later store
+  pub Makes-before : (old mid new : Contents) (t : Tree) (x : X) → Makes {E = E} name old mid t (Ok x) → Grows mid new → Makes {E = E} name old new t (Ok x)
+  Makes-before old mid new t x m g =
+      let k = id-kept mid new g (name x) m.of_store in
+      record { grows = Grows-trans old mid new m.grows g; of_store = k.0; tree = k.1 ∙ m.tree }
+
+  -- and its tree told another way: the answer of a last call
+  pub Makes-last : (old mid new : Contents) (t u : Tree) (r : Result X E) → Grows old mid → t ≡ u → Makes name mid new t r → Makes name old new u r
+  Makes-last old mid new t u r g e m = subst (λ v. Makes name old new v r) e (Makes-after old mid new t r g m)
+
+-- what was made is the identity, or the composite: so it may be noted
+pub identity-made : {E : Type 0} (old new : Contents) (d a : ℕ) → IsDiagramOf old d
+    → MakesArrow {E = E} old new (identity_tree (diagram_at old d)) (Ok a) → IsIdentityOf new d a
+identity-made old new d a l m = record {
+  diagram = m.grows.diagrams d l;
+  identity = m.of_store;
+  tree = m.tree ∙ ap identity_tree (sym (m.grows.diagram_trees d l));
+}
+
+pub composite-made : {E : Type 0} (old new : Contents) (g f h : ℕ) → IsArrowOf old g → IsArrowOf old f
+    → MakesArrow {E = E} old new (composite_tree (arrow_at old g) (arrow_at old f)) (Ok h) → IsCompositeOf new g f h
+composite-made old new g f h k l m = record {
+  outer = m.grows.arrows g k;
+  inner = m.grows.arrows f l;
+  composite = m.of_store;
+  tree = m.tree ∙ (λ i. composite_tree (sym (m.grows.arrow_trees g k) i) (sym (m.grows.arrow_trees f l) i));
+}
 
 -- ---- gathered ids
 
@@ -92,9 +143,22 @@ pub gathers-arrow_more : (old new : Contents) (ids : List ℕ) (n a : ℕ) (f : 
     → IsArrowOf new a → arrow_at new a ≡ f n → Gathers new.arrows (ids ++ a ∷ []) (n + 1) f
 gathers-arrow_more old new ids n a f h g l e = gathers-push new.arrows ids n a f (gathers-arrows_grow old new ids n f g h) l e
 
+-- so a call that made one more
+pub makes-more : {E : Type 0} (old new : Contents) (ids : List ℕ) (n a : ℕ) (f : ℕ → Tree) (t : Tree) → Gathers old.arrows ids n f
+    → MakesArrow {E = E} old new t (Ok a) → t ≡ f n → Gathers new.arrows (ids ++ a ∷ []) (n + 1) f
+makes-more old new ids n a f t h m e = gathers-arrow_more old new ids n a f h m.grows m.of_store (m.tree ∙ e)
+
 -- the gathered ids are of the store, and their trees in order are those of f
 pub gathers-below : (ts : List Tree) (ids : List ℕ) (n : ℕ) (f : ℕ → Tree) → Gathers ts ids n f → AreBelow ids (length ts)
 gathers-below ts ids n f g = record { below = λ i l. g.of_store i (let m = g.len in omega arith) }
+
+-- so they are the slices of an arrow that is put next
+pub made-children : {E : Type 0} (old mid new : Contents) (m n : ℕ) (f g : ℕ → Tree) (rs ss : SmallVec ℕ) → MakesArrows {E = E} old mid m f (Ok rs)
+    → MakesArrows {E = E} mid new n g (Ok ss) → AreArrowChildren (length new.arrows) rs.items ss.items
+made-children old mid new m n f g rs ss r s = record {
+  regs = gathers-below new.arrows rs.items m f (gathers-arrows_grow mid new rs.items m f s.grows r.gathers);
+  sings = gathers-below new.arrows ss.items n g s.gathers;
+}
 
 pub gathers-picked : (ts : List Tree) (ids : List ℕ) (n : ℕ) (f : ℕ → Tree) → Gathers ts ids n f → picked ts ids ≡ tab f n
 gathers-picked ts ids n f g =

@@ -1,5 +1,6 @@
 pub mod TableLemmas
 pub mod NodeLemmas
+mod NoteLemmas
 pub mod ContentsLemmas
 pub mod ChildLemmas
 pub mod PutLemmas

@@ -6,7 +6,7 @@ use Rattle.diagram_terms.specs.Tree.{Tree, nil}
 use Rattle.diagram_terms.specs.Dimension.{IsDiagramTree, IsArrowTree}
 use Rattle.hashcons.specs.declared.node.ArrowNode.{ArrowNode}
 use Rattle.hashcons.specs.declared.node.DiagramNode.{DiagramNode}
-use Rattle.hashcons.specs.Contents.{Contents, diagram_at, arrow_at, Grows, IsStore, AddsArrow, AddsDiagram, with_arrow, with_diagram}
+use Rattle.hashcons.specs.Contents.{Contents, Notes, diagram_at, arrow_at, Grows, IsStore, AddsArrow, AddsDiagram, with_arrow, with_diagram}
 use Rattle.hashcons.specs.Nodes.{tree_of_arrow, tree_of_diagram, IsArrowOver, IsDiagramOver, described_arrow, described_diagram, HasArrowsOf, HasChildrenOf}
 use Rattle.hashcons.specs.Tables.{trees_from, AreGrounded, arrow_trees, diagram_trees, contents_of, AreTables}
 use Rattle.hashcons.proofs.TableLemmas.{AgreeBelow, length-trees_from, trees_from-push, trees_from-same, tree-reads, tree-new, AreGrounded-at, AreGrounded-push, AreGrounded-wider, slice_get-below, at-push}
@@ -30,8 +30,8 @@ pub record ReadsDiagram (c : Contents) (i : ℕ) (k : DiagramNode) : Type 0 wher
   pub tree : described_diagram c k ≡ diagram_at c i
   pub children : HasChildrenOf c k
 
-module _ (arrows : List ArrowNode) (diagrams : List DiagramNode) (tables : AreTables arrows diagrams) where
-  pub reads_arrow : (i : ℕ) (k : ArrowNode) → slice_get arrows i ≡ Some k → ReadsArrow (contents_of arrows diagrams) i k
+module _ (arrows : List ArrowNode) (diagrams : List DiagramNode) (notes : Notes) (tables : AreTables arrows diagrams notes) where
+  pub reads_arrow : (i : ℕ) (k : ArrowNode) → slice_get arrows i ≡ Some k → ReadsArrow (contents_of arrows diagrams notes) i k
   reads_arrow i k at =
       let l = length-arrow_trees arrows in
       let b = slice_get-below arrows i k at in
@@ -42,7 +42,7 @@ module _ (arrows : List ArrowNode) (diagrams : List DiagramNode) (tables : AreTa
       }
 
   pub reads_diagram : (i : ℕ) (k : DiagramNode) → slice_get diagrams i ≡ Some k
-      → ReadsDiagram (contents_of arrows diagrams) i k
+      → ReadsDiagram (contents_of arrows diagrams notes) i k
   reads_diagram i k at =
       let us = arrow_trees arrows in
       let over = IsDiagramOver (length us) in
@@ -76,25 +76,25 @@ holds-equal f B local eq alike ns n g i k at same =
     }
 
 -- the tables after a node was put, and where it stands
-pub record PutsArrow (before after : List ArrowNode) (diagrams : List DiagramNode) (n : ArrowNode) : Type 0 where
-  pub tables : AreTables after diagrams
-  pub grows : Grows (contents_of before diagrams) (contents_of after diagrams)
-  pub adds : AddsArrow (contents_of before diagrams) (contents_of after diagrams) (tree_of_arrow (arrow_trees before) n)
+pub record PutsArrow (before after : List ArrowNode) (diagrams : List DiagramNode) (notes : Notes) (n : ArrowNode) : Type 0 where
+  pub tables : AreTables after diagrams notes
+  pub grows : Grows (contents_of before diagrams notes) (contents_of after diagrams notes)
+  pub adds : AddsArrow (contents_of before diagrams notes) (contents_of after diagrams notes) (tree_of_arrow (arrow_trees before) n)
   pub held : (i : ℕ) (k : ArrowNode) → slice_get after i ≡ Some k → arrow_eq n k ≡ true
       → Holds (arrow_trees after) i (tree_of_arrow (arrow_trees before) n)
 
-module _ (before : List ArrowNode) (diagrams : List DiagramNode) (n : ArrowNode) (tables : AreTables before diagrams)
+module _ (before : List ArrowNode) (diagrams : List DiagramNode) (notes : Notes) (n : ArrowNode) (tables : AreTables before diagrams notes)
     (children : IsArrowOver (length (arrow_trees before)) n)
     (shape : IsArrowTree (tree_of_arrow (arrow_trees before) n)) where
-  arrow_there : PutsArrow before before diagrams n
+  arrow_there : PutsArrow before before diagrams notes n
   arrow_there = record {
     tables = tables;
-    grows = Grows-refl (contents_of before diagrams);
+    grows = Grows-refl (contents_of before diagrams notes);
     adds = inl refl;
     held = holds-equal tree_of_arrow IsArrowOver arrow-local arrow_eq arrow-alike before n tables.arrows_grounded;
   }
 
-  arrow_absent : list_any (arrow_eq n) before ≡ false → PutsArrow before (before ++ n ∷ []) diagrams n
+  arrow_absent : list_any (arrow_eq n) before ≡ false → PutsArrow before (before ++ n ∷ []) diagrams notes n
   arrow_absent none =
       let ts = arrow_trees before in
       let t = tree_of_arrow ts n in
@@ -121,19 +121,20 @@ module _ (before : List ArrowNode) (diagrams : List DiagramNode) (n : ArrowNode)
       let wide : length ts ≤ length (arrow_trees after) =
       let k = length_push ts t in let e = ap length pushed in omega arith
       in
-      let whole : with_arrow (contents_of before diagrams) t ≡ contents_of after diagrams =
-      λ i. record { diagrams = same i; arrows = sym pushed i }
+      let whole : with_arrow (contents_of before diagrams notes) t ≡ contents_of after diagrams notes =
+      λ i. record { diagrams = same i; arrows = sym pushed i; notes = notes }
       in
       let held = holds-equal tree_of_arrow IsArrowOver arrow-local arrow_eq arrow-alike after n grounded in
+      let grown = IsStore-push_arrow (contents_of before diagrams notes) t tables.store shape among low new in
       record {
         tables = record {
           arrows_grounded = grounded;
           diagrams_grounded =
               AreGrounded-wider (IsDiagramOver (length ts)) (IsDiagramOver (length (arrow_trees after)))
               (diagram-more_arrows (length ts) (length (arrow_trees after)) wide) 0 diagrams tables.diagrams_grounded;
-          store = subst IsStore whole (IsStore-push_arrow (contents_of before diagrams) t tables.store shape among low new);
+          store = subst IsStore whole grown;
         };
-        grows = subst (Grows (contents_of before diagrams)) whole (Grows-push_arrow (contents_of before diagrams) t);
+        grows = subst (Grows (contents_of before diagrams notes)) whole (Grows-push_arrow (contents_of before diagrams notes) t grown);
         adds = inr (sym whole);
         held = λ i k at is.
             let h = held i k at is in
@@ -145,30 +146,30 @@ module _ (before : List ArrowNode) (diagrams : List DiagramNode) (n : ArrowNode)
       }
 
   pub puts_arrow : (after : List ArrowNode) → after ≡ (if list_any (arrow_eq n) before then before else before ++ n ∷ [])
-      → PutsArrow before after diagrams n
+      → PutsArrow before after diagrams notes n
   puts_arrow after keys = by (list_any (arrow_eq n) before) refl
     where
-      by : (b : Bool) → list_any (arrow_eq n) before ≡ b → PutsArrow before after diagrams n
-      by true e = subst (λ ns. PutsArrow before ns diagrams n)
+      by : (b : Bool) → list_any (arrow_eq n) before ≡ b → PutsArrow before after diagrams notes n
+      by true e = subst (λ ns. PutsArrow before ns diagrams notes n)
           (sym (keys ∙ ap (λ b. if b then before else before ++ n ∷ []) e)) arrow_there
-      by false e = subst (λ ns. PutsArrow before ns diagrams n)
+      by false e = subst (λ ns. PutsArrow before ns diagrams notes n)
           (sym (keys ∙ ap (λ b. if b then before else before ++ n ∷ []) e)) (arrow_absent e)
 
-pub record PutsDiagram (arrows : List ArrowNode) (before after : List DiagramNode) (n : DiagramNode) : Type 0 where
-  pub tables : AreTables arrows after
-  pub grows : Grows (contents_of arrows before) (contents_of arrows after)
-  pub adds : AddsDiagram (contents_of arrows before) (contents_of arrows after)
+pub record PutsDiagram (arrows : List ArrowNode) (before after : List DiagramNode) (notes : Notes) (n : DiagramNode) : Type 0 where
+  pub tables : AreTables arrows after notes
+  pub grows : Grows (contents_of arrows before notes) (contents_of arrows after notes)
+  pub adds : AddsDiagram (contents_of arrows before notes) (contents_of arrows after notes)
       (tree_of_diagram (arrow_trees arrows) (diagram_trees arrows before) n)
   pub held : (i : ℕ) (k : DiagramNode) → slice_get after i ≡ Some k → diagram_eq n k ≡ true
       → Holds (diagram_trees arrows after) i (tree_of_diagram (arrow_trees arrows) (diagram_trees arrows before) n)
 
-module _ (arrows : List ArrowNode) (before : List DiagramNode) (n : DiagramNode) (tables : AreTables arrows before)
+module _ (arrows : List ArrowNode) (before : List DiagramNode) (notes : Notes) (n : DiagramNode) (tables : AreTables arrows before notes)
     (children : IsDiagramOver (length (arrow_trees arrows)) (length (diagram_trees arrows before)) n)
     (shape : IsDiagramTree (tree_of_diagram (arrow_trees arrows) (diagram_trees arrows before) n)) where
-  diagram_there : PutsDiagram arrows before before n
+  diagram_there : PutsDiagram arrows before before notes n
   diagram_there = record {
     tables = tables;
-    grows = Grows-refl (contents_of arrows before);
+    grows = Grows-refl (contents_of arrows before notes);
     adds = inl refl;
     held =
         holds-equal (tree_of_diagram (arrow_trees arrows)) (IsDiagramOver (length (arrow_trees arrows)))
@@ -176,7 +177,7 @@ module _ (arrows : List ArrowNode) (before : List DiagramNode) (n : DiagramNode)
         diagram_eq (diagram-alike (arrow_trees arrows)) before n tables.diagrams_grounded;
   }
 
-  diagram_absent : list_any (diagram_eq n) before ≡ false → PutsDiagram arrows before (before ++ n ∷ []) n
+  diagram_absent : list_any (diagram_eq n) before ≡ false → PutsDiagram arrows before (before ++ n ∷ []) notes n
   diagram_absent none =
       let us = arrow_trees arrows in
       let f = tree_of_diagram us in
@@ -200,18 +201,18 @@ module _ (arrows : List ArrowNode) (before : List DiagramNode) (n : DiagramNode)
       let agree : AgreeBelow (length ts) ts (diagram_trees arrows after) =
       λ j h. sym (ap (λ vs. get_or vs j nil) pushed ∙ at-push ts t j h)
       in
-      let whole : with_diagram (contents_of arrows before) t ≡ contents_of arrows after =
-      λ i. record { diagrams = sym pushed i; arrows = us }
+      let whole : with_diagram (contents_of arrows before notes) t ≡ contents_of arrows after notes =
+      λ i. record { diagrams = sym pushed i; arrows = us; notes = notes }
       in
       let held = holds-equal f over (diagram-local us) diagram_eq (diagram-alike us) after n grounded in
+      let grown = IsStore-push_diagram (contents_of arrows before notes) t tables.store shape slices legs low new in
       record {
         tables = record {
           arrows_grounded = tables.arrows_grounded;
           diagrams_grounded = grounded;
-          store = subst IsStore whole (IsStore-push_diagram (contents_of arrows before) t tables.store shape slices legs
-              low new);
+          store = subst IsStore whole grown;
         };
-        grows = subst (Grows (contents_of arrows before)) whole (Grows-push_diagram (contents_of arrows before) t);
+        grows = subst (Grows (contents_of arrows before notes)) whole (Grows-push_diagram (contents_of arrows before notes) t grown);
         adds = inr (sym whole);
         held = λ i k at is.
             let h = held i k at is in
@@ -223,11 +224,11 @@ module _ (arrows : List ArrowNode) (before : List DiagramNode) (n : DiagramNode)
       }
 
   pub puts_diagram : (after : List DiagramNode)
-      → after ≡ (if list_any (diagram_eq n) before then before else before ++ n ∷ []) → PutsDiagram arrows before after n
+      → after ≡ (if list_any (diagram_eq n) before then before else before ++ n ∷ []) → PutsDiagram arrows before after notes n
   puts_diagram after keys = by (list_any (diagram_eq n) before) refl
     where
-      by : (b : Bool) → list_any (diagram_eq n) before ≡ b → PutsDiagram arrows before after n
-      by true e = subst (λ ns. PutsDiagram arrows before ns n)
+      by : (b : Bool) → list_any (diagram_eq n) before ≡ b → PutsDiagram arrows before after notes n
+      by true e = subst (λ ns. PutsDiagram arrows before ns notes n)
           (sym (keys ∙ ap (λ b. if b then before else before ++ n ∷ []) e)) diagram_there
-      by false e = subst (λ ns. PutsDiagram arrows before ns n)
+      by false e = subst (λ ns. PutsDiagram arrows before ns notes n)
           (sym (keys ∙ ap (λ b. if b then before else before ++ n ∷ []) e)) (diagram_absent e)

@@ -2,5 +2,6 @@ pub mod Contents
 pub mod Gathers
 pub mod Ids
 pub mod Listing
+pub mod Made
 pub mod Nodes
 pub mod Tables

@@ -3,7 +3,7 @@ use Rattle.std.specs.Prelude.{ℕ, ◌+◌, List, [], ◌∷◌, ◌++◌, lengt
 use Rattle.diagram_terms.specs.Tree.{Tree}
 use Rattle.hashcons.specs.declared.node.DiagramNode.{DiagramNode}
 use Rattle.hashcons.specs.declared.node.ArrowNode.{ArrowNode}
-use Rattle.hashcons.specs.Contents.{Contents, IsStore}
+use Rattle.hashcons.specs.Contents.{Contents, Notes, IsStore}
 use Rattle.hashcons.specs.Nodes.{tree_of_arrow, tree_of_diagram, IsArrowOver, IsDiagramOver}
 
 module _ {N : Type 0} where
@@ -24,12 +24,12 @@ arrow_trees nodes = trees_from tree_of_arrow [] nodes
 abbrev pub diagram_trees : List ArrowNode → List DiagramNode → List Tree
 diagram_trees arrows nodes = trees_from (tree_of_diagram (arrow_trees arrows)) [] nodes
 
--- what callers see of two tables
-abbrev pub contents_of : List ArrowNode → List DiagramNode → Contents
-contents_of arrows diagrams = record { diagrams = diagram_trees arrows diagrams; arrows = arrow_trees arrows }
+-- what callers see of two tables and of the notes
+abbrev pub contents_of : List ArrowNode → List DiagramNode → Notes → Contents
+contents_of arrows diagrams notes = record { diagrams = diagram_trees arrows diagrams; arrows = arrow_trees arrows; notes = notes }
 
 -- children stand before parents, and what is true of every store
-pub record AreTables (arrows : List ArrowNode) (diagrams : List DiagramNode) : Type 0 where
+pub record AreTables (arrows : List ArrowNode) (diagrams : List DiagramNode) (notes : Notes) : Type 0 where
   pub arrows_grounded : AreGrounded IsArrowOver 0 arrows
   pub diagrams_grounded : AreGrounded (IsDiagramOver (length (arrow_trees arrows))) 0 diagrams
-  pub store : IsStore (contents_of arrows diagrams)
+  pub store : IsStore (contents_of arrows diagrams notes)

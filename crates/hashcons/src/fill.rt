@@ -1,7 +1,8 @@
 ghost use Rattle.std.specs.Prelude.{◌≡◌, ◌<◌, ◌≤◌, ℕ, IfOk, length};
 ghost use Rattle.diagram_terms.specs.Nodes.{AreNodes, tree_at};
-ghost use Rattle.hashcons.specs.Contents.{IsStore, Grows};
-ghost use Rattle.hashcons.specs.Ids.{IsOf, tree_of, GathersIds, AreDiagramsAt, AreArrowsAt, NameDiagrams, NameArrows};
+ghost use Rattle.hashcons.specs.Contents.{Grows};
+ghost use Rattle.hashcons.specs.Made.{Makes};
+ghost use Rattle.hashcons.specs.Ids.{GathersIds, AreDiagramsAt, AreArrowsAt, NameDiagrams, NameArrows};
 
 use crate::id::{AnyId, ArrowId, DiagramId};
 use crate::node::{ArrowNode, DiagramNode};
@@ -18,7 +19,6 @@ impl Store {
         ensures ids { IfOk result (λ ids.
             GathersIds self.new ids.items (length nodes.now) (tree_at nodes.now)) }
         ensures grows { Grows self.old self.new }
-        ensures store { IsStore self.new }
     {
         let mut ids = Vec::new(self.allocator());
         for at in 0..nodes.len() {
@@ -34,11 +34,7 @@ impl Store {
         requires form { AreNodes nodes.now }
         requires within { at < length nodes.now }
         requires ids { GathersIds self.old ids.now at (tree_at nodes.now) }
-        requires store { IsStore self.old }
-        ensures of_store { IfOk result (λ id. IsOf self.new id) }
-        ensures tree { IfOk result (λ id. tree_of self.new id ≡ tree_at nodes.now at) }
-        ensures grows { Grows self.old self.new }
-        ensures store { IsStore self.new }
+        ensures { Makes (λ x. x) self.old self.new (tree_at nodes.now at) result }
     {
         let alloc = self.allocator();
         match &nodes[at] {

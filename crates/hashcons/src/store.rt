@@ -4,15 +4,19 @@ use crate::id::{ArrowId, DiagramId};
 use crate::node::{ArrowNode, DiagramNode};
 use indexmap::IndexSet;
 use std::alloc::{AllocError, Global};
+use std::collections::HashMap;
 use std::marker::Model;
 
 /// A store of diagrams and arrows, in which each tree stands once and children before parents.
 ///
-/// Contracts see the tree of each id. An id keeps its tree, whatever is put later.
+/// Contracts see the tree of each id, and what was noted of ids, so that it is not worked out
+/// twice. An id keeps its tree, and a note stays, whatever is put later.
 #[derive(Drop)]
 pub struct Store {
     diagrams: IndexSet<DiagramNode>,
     arrows: IndexSet<ArrowNode>,
+    identities: HashMap<DiagramId, ArrowId>,
+    composites: HashMap<(ArrowId, ArrowId), ArrowId>,
 }
 
 impl Model for Store {
@@ -24,15 +28,16 @@ impl Model for Store {
 
     ghost use Rattle.hashcons.specs.Tables.{contents_of, AreTables};
 
-    ghost view = { λ s. contents_of s.arrows.keys s.diagrams.keys };
+    ghost view = { λ s. contents_of s.arrows.keys s.diagrams.keys (record { identities = s.identities.entries; composites = s.composites.entries }) };
 
-    ghost invariant = { λ s. AreTables s.arrows.keys s.diagrams.keys };
+    ghost invariant = { λ s. AreTables s.arrows.keys s.diagrams.keys (record { identities = s.identities.entries; composites = s.composites.entries }) };
 }
 
 impl Store {
-    ghost use Rattle.std.specs.Prelude.{◌≡◌, IfOk, OnErr};
+    ghost use Rattle.std.specs.Prelude.{◌≡◌, IfSome, OnOk, OnErr, Some, nat_eq};
     ghost use Rattle.diagram_terms.specs.Dimension.{IsDiagramTree, IsArrowTree};
-    ghost use Rattle.hashcons.specs.Contents.{empty, IsStore, IsDiagramOf, IsArrowOf, Grows, AddsDiagram, AddsArrow, diagram_at, arrow_at};
+    ghost use Rattle.hashcons.specs.Contents.{empty, IsStore, IsDiagramOf, IsArrowOf, IsIdentityOf, IsCompositeOf, NotesMore, Grows, AddsDiagram, AddsArrow, same_pair, noted_identity, noted_composite, diagram_at, arrow_at};
+    ghost use Rattle.hashcons.specs.Made.{MakesDiagram, MakesArrow};
     ghost use Rattle.hashcons.specs.Nodes.{HasChildrenOf, HasArrowsOf, described_diagram, described_arrow};
 
     /// A store with no nodes.
@@ -42,6 +47,8 @@ impl Store {
         Store {
             diagrams: IndexSet::new(alloc),
             arrows: IndexSet::new(alloc),
+            identities: HashMap::new(alloc),
+            composites: HashMap::new(alloc),
         }
     }
 
@@ -56,12 +63,9 @@ impl Store {
     pub fn put_arrow(&mut self, node: ArrowNode) -> Result<ArrowId, AllocError>
         requires children { HasArrowsOf self.old node }
         requires shape { IsArrowTree (described_arrow self.old node) }
-        ensures of_store { IfOk result (λ a. IsArrowOf self.new a) }
-        ensures tree { IfOk result (λ a. arrow_at self.new a ≡ described_arrow self.old node) }
+        ensures made { MakesArrow self.old self.new (described_arrow self.old node) result }
         ensures adds { AddsArrow self.old self.new (described_arrow self.old node) }
-        ensures grows { Grows self.old self.new }
         ensures err { OnErr result (self.new ≡ self.old) }
-        ensures store { IsStore self.new }
     {
         let (index, _) = self.arrows.insert_full(node)?;
         Ok(ArrowId { index })
@@ -71,12 +75,9 @@ impl Store {
     pub fn put_diagram(&mut self, node: DiagramNode) -> Result<DiagramId, AllocError>
         requires children { HasChildrenOf self.old node }
         requires shape { IsDiagramTree (described_diagram self.old node) }
-        ensures of_store { IfOk result (λ d. IsDiagramOf self.new d) }
-        ensures tree { IfOk result (λ d. diagram_at self.new d ≡ described_diagram self.old node) }
+        ensures made { MakesDiagram self.old self.new (described_diagram self.old node) result }
         ensures adds { AddsDiagram self.old self.new (described_diagram self.old node) }
-        ensures grows { Grows self.old self.new }
         ensures err { OnErr result (self.new ≡ self.old) }
-        ensures store { IsStore self.new }
     {
         let (index, _) = self.diagrams.insert_full(node)?;
         Ok(DiagramId { index })
@@ -100,5 +101,52 @@ impl Store {
         ensures store { IsStore self.now }
     {
         &self.arrows[id.index]
+    }
+
+    /// The identity arrow of `d`, where it is noted.
+    pub fn known_identity(&self, d: DiagramId) -> Option<ArrowId>
+        ensures value { result ≡ noted_identity self.now d }
+        ensures right { IfSome result (IsIdentityOf self.now d) }
+        ensures store { IsStore self.now }
+    {
+        self.identities.get(&d).copied()
+    }
+
+    /// Notes the identity arrow of a diagram. Where it is noted, nothing changes.
+    pub fn note_identity(&mut self, d: DiagramId, identity: ArrowId) -> Result<(), AllocError>
+        requires { IsIdentityOf self.old d identity }
+        ensures notes { OnOk result (NotesMore nat_eq self.old.notes.identities self.new.notes.identities d identity) }
+        ensures noted { OnOk result (noted_identity self.new d ≡ Some identity) }
+        ensures grows { Grows self.old self.new }
+        ensures err { OnErr result (self.new ≡ self.old) }
+    {
+        self.identities.insert(d, identity)?;
+        Ok(())
+    }
+
+    /// The composite of `g` after `f`, where it is noted.
+    pub fn known_composite(&self, g: ArrowId, f: ArrowId) -> Option<ArrowId>
+        ensures value { result ≡ noted_composite self.now g f }
+        ensures right { IfSome result (IsCompositeOf self.now g f) }
+        ensures store { IsStore self.now }
+    {
+        self.composites.get(&(g, f)).copied()
+    }
+
+    /// Notes the composite of two arrows. Where it is noted, nothing changes.
+    pub fn note_composite(
+        &mut self,
+        g: ArrowId,
+        f: ArrowId,
+        made: ArrowId,
+    ) -> Result<(), AllocError>
+        requires { IsCompositeOf self.old g f made }
+        ensures notes { OnOk result (NotesMore same_pair self.old.notes.composites self.new.notes.composites (g, f) made) }
+        ensures noted { OnOk result (noted_composite self.new g f ≡ Some made) }
+        ensures grows { Grows self.old self.new }
+        ensures err { OnErr result (self.new ≡ self.old) }
+    {
+        self.composites.insert((g, f), made)?;
+        Ok(())
     }
 }

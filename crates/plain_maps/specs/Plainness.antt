@@ -1,16 +1,18 @@
 -- Plain arrows and plain diagrams, on the trees that a store holds.
-use Rattle.std.specs.Prelude.{◌≡◌, ℕ, suc, ◌<◌, List, ◌++◌, length, Option}
+use Rattle.std.specs.Prelude.{◌≡◌, ℕ, suc, ◌<◌, List, [], length, Option}
 use Rattle.diagram_terms.specs.declared.place.Step.{Step}
 use Rattle.diagram_terms.specs.declared.place.Step.TheVariants as step
+use Rattle.diagram_terms.specs.declared.place.End.TheVariants as at_end
 use Rattle.diagram_terms.specs.Tree.{Tree, heights, regs, sings}
 use Rattle.diagram_terms.specs.Dimension.{dimension_of, IsArrowTree}
 use Rattle.diagram_terms.specs.Shape.{reg_at, sing_at, fwd_at, bwd_at}
-use Rattle.diagram_terms.specs.Decoded.{dia, arr}
+use Rattle.diagram_terms.specs.Decoded.{arr}
 use Rattle.diagram_terms.specs.Dual.{upto}
 use Rattle.diagram_terms.specs.Identity.{IsIdentity}
 use Rattle.diagram_terms.specs.Plain.{PlainArrow, Plain}
-use Rattle.diagram_terms.specs.Places.{Test, under}
-use Rattle.diagram_terms.specs.Loose.{plain_leg, plain_tests, first_loose_leg}
+use Rattle.diagram_terms.specs.Places.{Test, here}
+use Rattle.diagram_terms.specs.Loose.{is_plain, plain_tests, first_loose_leg}
+use Rattle.diagram_terms.specs.OnTrees.{on_diagram, on_arrow}
 use Rattle.hashcons.specs.Contents.{Contents, IsArrowOf, arrow_at}
 
 -- an arrow's tree is plain
@@ -18,12 +20,12 @@ unfoldable pub IsPlainTree : Tree → Type 0
 IsPlainTree t = PlainArrow (dimension_of t) (arr (dimension_of t) t)
 
 -- a diagram's tree is plain
-unfoldable pub IsPlainDiagramTree : Tree → Type 0
-IsPlainDiagramTree t = Plain (dimension_of t) (dia (dimension_of t) t)
+abbrev pub IsPlainDiagramTree : Tree → Type 0
+IsPlainDiagramTree t = on_diagram Plain t
 
 -- the steps to the first leg that is not plain, in a diagram's tree
-unfoldable pub loose_leg : Tree → Option (List Step)
-loose_leg t = first_loose_leg (dimension_of t) (dia (dimension_of t) t)
+abbrev pub loose_leg : Tree → Option (List Step)
+loose_leg t = on_diagram first_loose_leg t
 
 -- ---- arrows, part by part
 
@@ -57,19 +59,18 @@ pub record IsArrowAt (c : Contents) (n a : ℕ) : Type 0 where
 -- ---- the tests of legs, part by part
 
 -- the tests of all legs of a diagram
-unfoldable pub plain_tests_in : Tree → List Test
-plain_tests_in t = plain_tests (dimension_of t) (dia (dimension_of t) t)
+abbrev pub plain_tests_in : Tree → List Test
+plain_tests_in t = on_diagram plain_tests t
 
--- those in its regular slices, in its singular slices, and of its own legs
-abbrev pub reg_slice_legs : Tree → ℕ → List Test
-reg_slice_legs t j = under (step.R j) (plain_tests_in (reg_at t j))
+-- the test of a leg
+abbrev pub leg_test : Tree → List Test
+leg_test f = on_arrow (λ d x. here at_end.Ends (is_plain d x)) f
 
-abbrev pub sing_slice_legs : Tree → ℕ → List Test
-sing_slice_legs t i = under (step.S i) (plain_tests_in (sing_at t i))
-
--- the test of the leg f to which step s leads
-unfoldable pub plain_leg_to : Step → Tree → List Test
-plain_leg_to s f = plain_leg (dimension_of f) s (arr (dimension_of f) f)
-
-abbrev pub own_legs : Tree → ℕ → List Test
-own_legs t k = plain_leg_to (step.F k) (fwd_at t k) ++ plain_leg_to (step.B k) (bwd_at t k)
+-- the test of the leg of t to which the step leads
+abbrev pub legs_at : Tree → Step → List Test
+legs_at t step.SourceEnd = []
+legs_at t step.TargetEnd = []
+legs_at t (step.R j) = []
+legs_at t (step.S i) = []
+legs_at t (step.F k) = leg_test (fwd_at t k)
+legs_at t (step.B k) = leg_test (bwd_at t k)

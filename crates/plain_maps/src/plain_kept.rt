@@ -12,9 +12,10 @@ pub(crate) struct PlainKept {
 }
 
 impl PlainKept {
-    ghost use Rattle.std.specs.Prelude.{IsTrue};
+    ghost use Rattle.std.specs.Prelude.{IsTrue, ◌≡◌, None};
+    ghost use Rattle.diagram_terms.specs.Places.{first_failure};
     ghost use Rattle.hashcons.specs.Contents.{Contents, diagram_at, arrow_at};
-    ghost use Rattle.plain_maps.specs.Plainness.{IsPlainTree, IsPlainDiagramTree, IsIdentityTree};
+    ghost use Rattle.plain_maps.specs.Plainness.{IsPlainTree, IsIdentityTree, plain_tests_in};
     ghost use Rattle.plain_maps.specs.PlainKeeps.{ArePlain};
 
     pub(crate) fn new(alloc: Global) -> PlainKept
@@ -27,15 +28,15 @@ impl PlainKept {
         }
     }
 
-    /// Whether `d` is kept as a plain diagram.
+    /// Whether `d` is kept as a diagram in which no leg is loose.
     pub(crate) fn has_diagram(&self, d: DiagramId) -> bool
-        ensures { (c : Contents) → ArePlain c self.now → IsTrue result → IsPlainDiagramTree (diagram_at c d) }
+        ensures { (c : Contents) → ArePlain c self.now → IsTrue result → None ≡ first_failure (plain_tests_in (diagram_at c d)) }
     {
         self.diagrams.contains(&d)
     }
 
     pub(crate) fn keep_diagram(&mut self, d: DiagramId) -> Result<(), AllocError>
-        ensures { (c : Contents) → ArePlain c self.old → IsPlainDiagramTree (diagram_at c d) → ArePlain c self.new }
+        ensures { (c : Contents) → ArePlain c self.old → None ≡ first_failure (plain_tests_in (diagram_at c d)) → ArePlain c self.new }
     {
         self.diagrams.insert(d)?;
         Ok(())

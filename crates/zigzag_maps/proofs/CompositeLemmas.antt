@@ -17,11 +17,12 @@ use Rattle.diagram_terms.proofs.Duals.{dual-le-length, dual-zero, lt-dual, dual-
 use Rattle.diagram_terms.proofs.Glue.{arr-regs_len, arr-sings_len, arr-reg, arr-sing}
 use Rattle.diagram_terms.proofs.Parts.{comp-from, comp-to, comp-heights, comp-regs_len, comp-sings_len, comp-reg, comp-sing}
 use Rattle.diagram_terms.proofs.Shapes.{IsArrow-ends, IsArrow-zag, one_diagram_dimension}
-use Rattle.zigzag_maps.specs.Trees.{composite_tree, AreComposableAt, AreComposable, IsArrowBetween}
+use Rattle.diagram_terms.specs.Operations.{composite_tree}
+use Rattle.diagram_terms.specs.ValidTrees.{AreComposableAt, AreComposable, IsArrowBetween}
 use Rattle.hashcons.proofs.ContentsLemmas.{Grows-refl}
-use Rattle.hashcons.proofs.Growth.{Grows-trans, diagram-kept, arrow-kept, diagram_at-kept, arrow_at-kept}
+use Rattle.diagram_terms.proofs.NotionsOnTrees.{on_arrow_at}
+use Rattle.hashcons.proofs.Growth.{Grows-trans, store-kept, diagram-kept, arrow-kept, diagram_at-kept, arrow_at-kept}
 use Rattle.zigzag_maps.proofs.IdentityLemmas.{slices_tab}
-use Rattle.zigzag_maps.proofs.KeepLemmas.{kept-grows}
 
 -- ---- heights
 
@@ -45,17 +46,13 @@ dual_done hs i k m l e = elim (cases_lt i (dual hs k)) [
 
 -- ---- the composite at the dimension of its parts
 
-pub composite_tree_at : (d : ℕ) (g f : Tree) → IsArrow d f → composite_tree g f ≡ arr_tree d (comp d (arr d g) (arr d f))
-unfolding composite_tree
-composite_tree_at d g f h = ap (λ n. arr_tree n (comp n (arr n g) (arr n f))) (arrow_dimension d f h)
-
 pub composite_tree-ends : (u v x y : Label) → composite_tree (ends u v) (ends x y) ≡ ends x v
 composite_tree-ends u v x y =
     let g = arr zero (ends u v) in
     let f = arr zero (ends x y) in
     let p = from_at-ends x y in
     let q = to_at-ends u v in
-    composite_tree_at zero (ends u v) (ends x y) (IsArrow-ends x y) ∙ (λ i. ends (comp-from g f i) (comp-to g f i)) ∙ (λ i. ends (p i) (q i))
+    on_arrow_at _ zero (ends x y) (IsArrow-ends x y) ∙ (λ i. ends (comp-from g f i) (comp-to g f i)) ∙ (λ i. ends (p i) (q i))
 
 -- ---- one level up
 
@@ -141,16 +138,16 @@ module _ (d : ℕ) (g f : Tree) (c : AreComposableAt (suc d) g f) where
       let q = arr-reg d f (dual (heights g) k) (reg_within k) in
       let m : k < length G.regs = omega (arith, arr-regs_len d g) in
       ap (arr_tree d) (comp-reg d G F k m ∙ (λ i. comp d (p i) (q i)))
-      ∙ sym (composite_tree_at d (reg_at g k) (reg_at f (dual (heights g) k)) (c.inner.regs_are (dual (heights g) k) (reg_within k)))))
+      ∙ sym (on_arrow_at _ d (reg_at f (dual (heights g) k)) (c.inner.regs_are (dual (heights g) k) (reg_within k)))))
       in
       let ss = slices_tab (length (heights f)) C.sings (no_arr d) (arr_tree d) (λ i. composite_tree (sing_at g (get_or (heights f) i 0)) (sing_at f i)) sl
       (λ i l. (let p = arr-sing d g (get_or (heights f) i 0) (sing_within i l) in
       let q = arr-sing d f i (inner_within i l) in
       let m : i < length F.sings = omega (arith, arr-sings_len d f, inner_within i l) in
       ap (arr_tree d) (comp-sing d G F i m ∙ (λ i. comp d (p i) (q i)))
-      ∙ sym (composite_tree_at d (sing_at g (get_or (heights f) i 0)) (sing_at f i) (c.inner.sings_are i (inner_within i l)))))
+      ∙ sym (on_arrow_at _ d (sing_at f i) (c.inner.sings_are i (inner_within i l)))))
       in
-      composite_tree_at (suc d) g f c.inner ∙ (λ i. zag (hs i) (rs i) (ss i))
+      on_arrow_at _ (suc d) f c.inner ∙ (λ i. zag (hs i) (rs i) (ss i))
 
   has_composite_above : HasComposite (AreComposableAt d) g f
   has_composite_above = record {
@@ -184,7 +181,7 @@ has_composite g f c l = has_composite_at c.dim g f c.at_dim (omega (arith, arrow
 -- ---- its shape
 
 pub composite_shape : (d : ℕ) (g f : Tree) → AreComposableAt d g f → IsArrow d (composite_tree g f)
-composite_shape zero g f c = subst (IsArrow zero) (sym (composite_tree_at zero g f c.inner)) (IsArrow-ends _ _)
+composite_shape zero g f c = subst (IsArrow zero) (sym (on_arrow_at _ zero f c.inner)) (IsArrow-ends _ _)
 composite_shape (suc d) g f c =
     let has = has_composite_above d g f c in
     let r = λ (k : ℕ). composite_tree (reg_at g k) (reg_at f (dual (heights g) k)) in
@@ -269,7 +266,7 @@ regs_above (suc d) t h l = h.regs_len
 pub arrow-regs : (t : Tree) → IsArrowTree t → 0 < dimension_of t → 0 < length (regs t)
 arrow-regs t h l = regs_above (dimension_of t) t h l
 
-pub ruleset composes = (Grows-refl, Grows-trans, diagram-kept, arrow-kept, diagram_at-kept, arrow_at-kept, kept-grows, composable-dimension, composable-middle, composable-outer_sings, composable-inner_sings, composable-height, composable-reg, composable-sing, arrow-regs, dual-le-length, dual_next, dual-zero, monotone_heights, dimension_of-arrow_reg, dimension_of-arrow_sing)
+pub ruleset composes = (Grows-refl, Grows-trans, diagram-kept, arrow-kept, diagram_at-kept, arrow_at-kept, composable-dimension, composable-middle, composable-outer_sings, composable-inner_sings, composable-height, composable-reg, composable-sing, arrow-regs, dual-le-length, dual_next, dual-zero, monotone_heights, dimension_of-arrow_reg, dimension_of-arrow_sing)
 
 -- no height is below 0
 pub zero_dual : (t : Tree) → IsArrowTree t → 0 < dimension_of t → 0 ≡ dual (heights t) 0

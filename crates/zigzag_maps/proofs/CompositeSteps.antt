@@ -1,5 +1,5 @@
 -- The composite of two arrows of a store, slice by slice, while the store grows.
-use Rattle.std.proofs.Common.{◌≡◌, ℕ, suc, ◌<◌, ◌≤◌, ◌+◌, ◌-◌, List, length, get_or, sym, ap, subst, ◌∙◌, arith}
+use Rattle.std.proofs.Common.{◌≡◌, ℕ, suc, ◌<◌, ◌≤◌, ◌+◌, ◌-◌, List, length, get_or, sym, ap, subst, ◌∙◌, arith, Ok}
 use Rattle.diagram_terms.specs.Tree.{Tree, zag, heights, regs, sings}
 use Rattle.diagram_terms.specs.Dual.{dual, after}
 use Rattle.diagram_terms.specs.Dimension.{dimension_of}
@@ -10,8 +10,11 @@ use Rattle.diagram_terms.proofs.Dimensions.{dimension_of-arrow_reg, dimension_of
 use Rattle.diagram_terms.proofs.Duals.{dual-le-length}
 use Rattle.hashcons.specs.Contents.{Contents, Grows, IsStore, IsArrowOf, arrow_at}
 use Rattle.hashcons.specs.Gathers.{Gathers}
+use Rattle.hashcons.specs.Made.{MakesArrows}
+use Rattle.smallvec.specs.SmallVec.{SmallVec}
 use Rattle.hashcons.proofs.Growth.{gathers-arrows_grow, gathers-picked}
-use Rattle.zigzag_maps.specs.Trees.{composite_tree, AreComposable}
+use Rattle.diagram_terms.specs.Operations.{composite_tree}
+use Rattle.diagram_terms.specs.ValidTrees.{AreComposable}
 use Rattle.zigzag_maps.proofs.CompositeLemmas.{has_composite}
 
 composable_same : (g f o i : Tree) → g ≡ o → f ≡ i → AreComposable g f → AreComposable o i
@@ -44,17 +47,17 @@ module _ (old now : Contents) (g f : ℕ) (grows : Grows old now) (outer : IsArr
         (ap (λ t. sing_at t k) (sym f_is) ∙ sym q) (has.sings_are k m)
 
   -- the composite that was made of them
-  module _ (o i : ℕ) (made : Tree) (is : made ≡ composite_tree (arrow_at now o) (arrow_at now i)) where
+  module _ (o i : ℕ) where
     pub reg_made : (k j : ℕ) → j ≡ dual (heights (arrow_at now g)) k → arrow_at now o ≡ reg_at (arrow_at now g) k → arrow_at now i ≡ reg_at (arrow_at now f) j
-        → made ≡ composite_tree (reg_at (arrow_at old g) k) (reg_at (arrow_at old f) (dual (heights (arrow_at old g)) k))
+        → composite_tree (arrow_at now o) (arrow_at now i) ≡ composite_tree (reg_at (arrow_at old g) k) (reg_at (arrow_at old f) (dual (heights (arrow_at old g)) k))
     reg_made k j e p q =
-        is ∙ (λ n. composite_tree (p n) (q n)) ∙ ap (λ m. composite_tree (reg_at (arrow_at now g) k) (reg_at (arrow_at now f) m)) e
+        (λ n. composite_tree (p n) (q n)) ∙ ap (λ m. composite_tree (reg_at (arrow_at now g) k) (reg_at (arrow_at now f) m)) e
         ∙ (λ n. composite_tree (reg_at (g_is n) k) (reg_at (f_is n) (dual (heights (g_is n)) k)))
 
     pub sing_made : (k j : ℕ) → j ≡ get_or (heights (arrow_at now f)) k 0 → arrow_at now o ≡ sing_at (arrow_at now g) j → arrow_at now i ≡ sing_at (arrow_at now f) k
-        → made ≡ composite_tree (sing_at (arrow_at old g) (get_or (heights (arrow_at old f)) k 0)) (sing_at (arrow_at old f) k)
+        → composite_tree (arrow_at now o) (arrow_at now i) ≡ composite_tree (sing_at (arrow_at old g) (get_or (heights (arrow_at old f)) k 0)) (sing_at (arrow_at old f) k)
     sing_made k j e p q =
-        is ∙ (λ n. composite_tree (p n) (q n)) ∙ ap (λ m. composite_tree (sing_at (arrow_at now g) m) (sing_at (arrow_at now f) k)) e
+        (λ n. composite_tree (p n) (q n)) ∙ ap (λ m. composite_tree (sing_at (arrow_at now g) m) (sing_at (arrow_at now f) k)) e
         ∙ (λ n. composite_tree (sing_at (g_is n) (get_or (heights (f_is n)) k 0)) (sing_at (f_is n) k))
 
 -- a slice has one dimension less
@@ -73,20 +76,19 @@ sing_dim c f i j d store l e above m is =
     omega arith
 
 -- the node that is put last describes the composite
-pub described_composite : (old mid new : Contents) (g f : ℕ) (hs rs ss : List ℕ) → IsArrowOf old g → IsArrowOf old f
+pub described_composite : {E : Type 0} (old mid new : Contents) (g f : ℕ) (hs : List ℕ) (rs ss : SmallVec ℕ) → IsArrowOf old g → IsArrowOf old f
     → AreComposable (arrow_at old g) (arrow_at old f) → 0 < dimension_of (arrow_at old f)
-    → hs ≡ after (heights (arrow_at old g)) (heights (arrow_at old f)) → Grows old mid
-    → Gathers mid.arrows rs (length (regs (arrow_at old g))) (λ k. composite_tree (reg_at (arrow_at old g) k) (reg_at (arrow_at old f) (dual (heights (arrow_at old g)) k)))
-    → Grows mid new
-    → Gathers new.arrows ss (length (heights (arrow_at mid f))) (λ i. composite_tree (sing_at (arrow_at mid g) (get_or (heights (arrow_at mid f)) i 0)) (sing_at (arrow_at mid f) i))
-    → zag hs (picked new.arrows rs) (picked new.arrows ss) ≡ composite_tree (arrow_at old g) (arrow_at old f)
-described_composite old mid new g f hs rs ss outer inner c above e a r b s =
+    → hs ≡ after (heights (arrow_at old g)) (heights (arrow_at old f))
+    → MakesArrows {E = E} old mid (length (regs (arrow_at old g))) (λ k. composite_tree (reg_at (arrow_at old g) k) (reg_at (arrow_at old f) (dual (heights (arrow_at old g)) k))) (Ok rs)
+    → MakesArrows {E = E} mid new (length (heights (arrow_at mid f))) (λ i. composite_tree (sing_at (arrow_at mid g) (get_or (heights (arrow_at mid f)) i 0)) (sing_at (arrow_at mid f) i)) (Ok ss)
+    → zag hs (picked new.arrows rs.items) (picked new.arrows ss.items) ≡ composite_tree (arrow_at old g) (arrow_at old f)
+described_composite old mid new g f hs rs ss outer inner c above e r s =
     let has = has_composite (arrow_at old g) (arrow_at old f) c above in
-    let r2 = gathers-picked new.arrows rs _ _ (gathers-arrows_grow mid new rs _ _ b r) in
-    let g_is = a.arrow_trees g outer in
-    let f_is = a.arrow_trees f inner in
-    let s2 = gathers-picked new.arrows ss _ _ (subst (λ (u : Tree). Gathers new.arrows ss (length (heights u)) (λ i. composite_tree (sing_at (arrow_at old g) (get_or (heights u) i 0)) (sing_at u i))) f_is
-    (subst (λ (u : Tree). Gathers new.arrows ss (length (heights (arrow_at mid f))) (λ i. composite_tree (sing_at u (get_or (heights (arrow_at mid f)) i 0)) (sing_at (arrow_at mid f) i))) g_is s)) in
+    let r2 = gathers-picked new.arrows rs.items _ _ (gathers-arrows_grow mid new rs.items _ _ s.grows r.gathers) in
+    let g_is = r.grows.arrow_trees g outer in
+    let f_is = r.grows.arrow_trees f inner in
+    let s2 = gathers-picked new.arrows ss.items _ _ (subst (λ (u : Tree). Gathers new.arrows ss.items (length (heights u)) (λ i. composite_tree (sing_at (arrow_at old g) (get_or (heights u) i 0)) (sing_at u i))) f_is
+    (subst (λ (u : Tree). Gathers new.arrows ss.items (length (heights (arrow_at mid f))) (λ i. composite_tree (sing_at u (get_or (heights (arrow_at mid f)) i 0)) (sing_at (arrow_at mid f) i))) g_is s.gathers)) in
     (λ n. zag (e n) (r2 n) (s2 n)) ∙ sym has.tree
 
 -- the dual at the next height is within the middle

@@ -11,9 +11,9 @@ use Rattle.diagram_terms.specs.Valid.{Commutes}
 use Rattle.diagram_terms.proofs.Decisions.{dual_next, square_decides}
 use Rattle.diagram_terms.proofs.Duals.{dual-le-length}
 use Rattle.diagram_terms.proofs.Glue.{arr-arr_tree, dia-fwd, dia-bwd, arr-reg, arr-sing}
-use Rattle.zigzag_maps.specs.Trees.{composite_tree}
+use Rattle.diagram_terms.specs.Operations.{composite_tree}
 use Rattle.zigzag_maps.specs.Visits.{FitsEnds, square_holds, first_edge, last_edge, edge_before, edge_behind}
-use Rattle.zigzag_maps.proofs.CompositeLemmas.{composite_tree_at}
+use Rattle.diagram_terms.proofs.NotionsOnTrees.{on_arrow_at}
 use Rattle.zigzag_maps.proofs.VisitLemmas.{square_holds_at}
 
 -- ---- the edges
@@ -57,7 +57,7 @@ module _ (d : ℕ) (s t f : Tree) (hs : IsDiagram (suc d) s) (ht : IsDiagram (su
 
   -- each edge is the tree of the family's
   composite_is : (g h : Tree) (G H : Arr d) → IsArrow d h → G ≡ arr d g → H ≡ arr d h → composite_tree g h ≡ arr_tree d (comp d G H)
-  composite_is g h G H shape p q = composite_tree_at d g h shape ∙ (λ i. arr_tree d (comp d (sym p i) (sym q i)))
+  composite_is g h G H shape p q = on_arrow_at _ d h shape ∙ (λ i. arr_tree d (comp d (sym p i) (sym q i)))
 
   first_is : first_edge t f k ≡ arr_tree d (comp d (fwd d Y k) (arrow_reg d F k))
   first_is =

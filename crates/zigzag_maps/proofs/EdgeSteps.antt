@@ -14,13 +14,12 @@ use Rattle.diagram_terms.proofs.Duals.{dual-le-length}
 use Rattle.diagram_terms.proofs.Glue.{dia-sings_len, dia-reg, dia-sing, dia-fwd, dia-bwd}
 use Rattle.hashcons.specs.Contents.{Contents, Grows, IsStore, IsArrowOf, diagram_at, arrow_at}
 use Rattle.hashcons.proofs.ContentsLemmas.{Grows-refl}
-use Rattle.hashcons.proofs.Growth.{Grows-trans, diagram-kept, arrow-kept}
+use Rattle.hashcons.proofs.Growth.{Grows-trans, store-kept, diagram-kept, arrow-kept}
 use Rattle.zigzag_maps.specs.declared.map.Map.{Map}
-use Rattle.zigzag_maps.specs.Trees.{IsValidTreeAt, IsArrowBetweenAt, AreComposable}
+use Rattle.diagram_terms.specs.ValidTrees.{IsValidTreeAt, IsArrowBetweenAt, AreComposable}
 use Rattle.zigzag_maps.specs.Visits.{FitsEnds, HasValidSlices, IsValidSlicewise, square_holds, last_edge, edge_before}
 use Rattle.zigzag_maps.proofs.EdgeLemmas.{EdgesAgree, edge_at, holds_at, agree_at}
 use Rattle.zigzag_maps.proofs.FaultSteps.{map_at-grows, map_trees}
-use Rattle.zigzag_maps.proofs.KeepLemmas.{kept-grows}
 
 -- ---- a store that grew
 
@@ -149,7 +148,7 @@ composable_read c n g f G F p q h = subst (λ (u : Tree). AreComposable u (arrow
 pub dim_read : (c : Contents) (n f : ℕ) (G F : Tree) → arrow_at c f ≡ F → AreComposable G F × (dimension_of F ≡ n) → n ≡ dimension_of (arrow_at c f)
 dim_read c n f G F q h = sym (ap dimension_of q ∙ h.1)
 
-pub ruleset edges = (Grows-refl, Grows-trans, diagram-kept, arrow-kept, kept-grows, slicewise-grows)
+pub ruleset edges = (Grows-refl, Grows-trans, store-kept, diagram-kept, arrow-kept, slicewise-grows)
 
 -- ---- ids that were compared
 

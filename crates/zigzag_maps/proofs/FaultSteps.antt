@@ -17,10 +17,10 @@ use Rattle.diagram_terms.proofs.Visiting.{first_failure-under}
 use Rattle.hashcons.specs.Contents.{Contents, Grows, IsStore, IsDiagramOf, IsArrowOf, diagram_at, arrow_at}
 use Rattle.zigzag_maps.specs.declared.map.Map.{Map}
 use Rattle.zigzag_maps.specs.Found.{IsValidDiagram, IsValidMap}
-use Rattle.zigzag_maps.specs.Trees.{IsValidTreeAt, IsValidTree}
+use Rattle.diagram_terms.specs.ValidTrees.{IsValidTreeAt, IsValidTree}
 use Rattle.zigzag_maps.specs.Visits.{IsMapAt, FitsEnds, arrow_fault, reg_tests, sing_tests, tests_between}
 use Rattle.hashcons.proofs.ContentsLemmas.{Grows-refl}
-use Rattle.hashcons.proofs.Growth.{Grows-trans, diagram-kept, arrow-kept}
+use Rattle.hashcons.proofs.Growth.{Grows-trans, store-kept, diagram-kept, arrow-kept}
 use Rattle.zigzag_maps.proofs.KeepLemmas.{kept-grows}
 use Rattle.zigzag_maps.proofs.VisitLemmas.{between_from, between_passes, ends_place}
 
@@ -196,4 +196,4 @@ lengths_above (suc d) s t f l hs ht hf = record {
 pub map_lengths : (c : Contents) (n : ℕ) (m : Map) → 0 < n → IsMapAt c n m → MapLengths n (diagram_at c m.source) (diagram_at c m.target) (arrow_at c m.arrow)
 map_lengths c n m l h = lengths_above n _ _ _ l h.source_valid.shape h.target_valid.shape h.arrow_shape
 
-pub ruleset faults = (Grows-refl, Grows-trans, diagram-kept, arrow-kept, kept-grows, map_at-grows, fits-grows)
+pub ruleset faults = (Grows-refl, Grows-trans, store-kept, diagram-kept, arrow-kept, kept-grows, map_at-grows, fits-grows)

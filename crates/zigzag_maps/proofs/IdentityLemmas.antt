@@ -1,5 +1,5 @@
 -- The tree of the identity arrow of a diagram, by its slices; and its shape.
-use Rattle.std.proofs.Common.{◌≡◌, ℕ, zero, suc, ◌<◌, ◌+◌, List, map, length, get_or, [], ◌∷◌, ◌++◌, sym, ap, subst, ◌∙◌, arith}
+use Rattle.std.proofs.Common.{◌≡◌, ℕ, zero, suc, ◌<◌, ◌+◌, List, map, length, get_or, [], ◌∷◌, ◌++◌, sym, ap, subst, ◌∙◌, arith, Ok}
 use Rattle.std.proofs.lemmas.List.{get_or-map, length-map, map-id, ext_get_or}
 use Rattle.std.proofs.lemmas.List.FromFn.{map-range_with_len_more}
 use Rattle.diagram_terms.specs.declared.label.Label.{Label}
@@ -16,23 +16,20 @@ use Rattle.diagram_terms.proofs.Glue.{dia-regs_len, dia-sings_len, dia-reg, dia-
 use Rattle.diagram_terms.proofs.Parts.{ident-from, ident-to, ident-heights, ident-regs_len, ident-sings_len, ident-reg, ident-sing}
 use Rattle.diagram_terms.proofs.Shapes.{IsArrow-ends, IsArrow-zag, IsDiagram-point}
 use Rattle.diagram_terms.specs.Nodes.{picked}
-use Rattle.hashcons.specs.Contents.{Contents, IsStore, IsDiagramOf, Grows, diagram_at, arrow_at}
+use Rattle.hashcons.specs.Contents.{Contents, IsStore, IsDiagramOf, Grows, diagram_at}
 use Rattle.hashcons.specs.Gathers.{Gathers}
+use Rattle.hashcons.specs.Made.{MakesArrows}
+use Rattle.smallvec.specs.SmallVec.{SmallVec}
 use Rattle.hashcons.proofs.ContentsLemmas.{Grows-refl}
-use Rattle.hashcons.proofs.Growth.{Grows-trans, diagram-kept, arrow-kept, diagram_at-kept, arrow_at-kept, gathers-arrows_grow, gathers-picked}
-use Rattle.zigzag_maps.specs.Trees.{identity_tree}
-use Rattle.zigzag_maps.proofs.KeepLemmas.{kept-grows}
-
--- at the dimension of a diagram
-pub identity_tree_at : (d : ℕ) (t : Tree) → IsDiagram d t → identity_tree t ≡ arr_tree d (ident d (dia d t))
-unfolding identity_tree
-identity_tree_at d t h = ap (λ n. arr_tree n (ident n (dia n t))) (diagram_dimension d t h)
+use Rattle.hashcons.proofs.Growth.{Grows-trans, store-kept, diagram-kept, arrow-kept, diagram_at-kept, arrow_at-kept, gathers-arrows_grow, gathers-picked}
+use Rattle.diagram_terms.proofs.NotionsOnTrees.{on_diagram_at}
+use Rattle.diagram_terms.specs.Operations.{identity_tree}
 
 -- of a label
 pub identity_tree-point : (x : Label) → identity_tree (point x) ≡ ends x x
 identity_tree-point x =
     let e = label_at-point x in
-    identity_tree_at zero (point x) (IsDiagram-point x)
+    on_diagram_at _ zero (point x) (IsDiagram-point x)
     ∙ (λ i. ends (ident-from (dia zero (point x)) i) (ident-to (dia zero (point x)) i)) ∙ (λ i. ends (e i) (e i))
 
 -- the list of the slices' identities
@@ -60,18 +57,18 @@ identity_tree-above d t h =
     let rs : map (arr_tree d) f.regs ≡ tab (λ j. identity_tree (reg_at t j)) (length (sings t) + 1) =
     slices_tab (length (sings t) + 1) f.regs (no_arr d) (arr_tree d) (λ j. identity_tree (reg_at t j)) (omega arith)
     (λ j l. ap (arr_tree d) (ident-reg d X j (omega arith) ∙ ap (ident d) (dia-reg d t h j (omega arith))) ∙ sym
-    (identity_tree_at d (reg_at t j) (h.regs_are j (omega arith))))
+    (on_diagram_at _ d (reg_at t j) (h.regs_are j (omega arith))))
     in
     let ss : map (arr_tree d) f.sings ≡ tab (λ i. identity_tree (sing_at t i)) (length (sings t)) =
     slices_tab (length (sings t)) f.sings (no_arr d) (arr_tree d) (λ i. identity_tree (sing_at t i)) (omega arith)
     (λ i l. ap (arr_tree d) (ident-sing d X i (omega arith) ∙ ap (ident d) (dia-sing d t h i l)) ∙ sym
-    (identity_tree_at d (sing_at t i) (h.sings_are i l)))
+    (on_diagram_at _ d (sing_at t i) (h.sings_are i l)))
     in
-    identity_tree_at (suc d) t h ∙ (λ i. zag (hs i) (rs i) (ss i))
+    on_diagram_at _ (suc d) t h ∙ (λ i. zag (hs i) (rs i) (ss i))
 
 -- its shape
 pub identity_shape : (d : ℕ) (t : Tree) → IsDiagram d t → IsArrow d (identity_tree t)
-identity_shape zero t h = subst (IsArrow zero) (sym (identity_tree_at zero t h)) (IsArrow-ends _ _)
+identity_shape zero t h = subst (IsArrow zero) (sym (on_diagram_at _ zero t h)) (IsArrow-ends _ _)
 identity_shape (suc d) t h =
     let n = length (sings t) in
     let u = length-upto n in
@@ -110,10 +107,9 @@ upto_more n =
 -- ---- in a store
 
 -- the identity of a slice that a loop has put next
-pub slice_identity : (old now new : Contents) (d s a : ℕ) (part : Tree → Tree) → Grows old now → IsDiagramOf old d
-    → diagram_at now s ≡ part (diagram_at now d) → arrow_at new a ≡ identity_tree (diagram_at now s) → arrow_at new
-    a ≡ identity_tree (part (diagram_at old d))
-slice_identity old now new d s a part g l e f = f ∙ ap identity_tree (e ∙ ap part (g.diagram_trees d l))
+pub slice_identity : (old now : Contents) (d s : ℕ) (part : Tree → Tree) → Grows old now → IsDiagramOf old d
+    → diagram_at now s ≡ part (diagram_at now d) → identity_tree (diagram_at now s) ≡ identity_tree (part (diagram_at old d))
+slice_identity old now d s part g l e = ap identity_tree (e ∙ ap part (g.diagram_trees d l))
 
 above_zero : (n : ℕ) (t : Tree) (rs ss : List Tree) (hs : List ℕ) → IsDiagram n t → 0 < n → hs ≡ upto (length (sings t))
     → rs ≡ tab (λ j. identity_tree (reg_at t j)) (length (sings t) + 1) → ss ≡ tab (λ i. identity_tree (sing_at t i))
@@ -122,19 +118,18 @@ above_zero zero t rs ss hs h l p q r = absurd (omega arith)
 above_zero (suc n) t rs ss hs h l p q r = (λ i. zag (p i) (q i) (r i)) ∙ sym (identity_tree-above n t h)
 
 -- the node that is put last describes the identity
-pub described_identity : (old mid new : Contents) (d : ℕ) (hs rs ss : List ℕ) → IsStore old → IsDiagramOf old d
+pub described_identity : {E : Type 0} (old mid new : Contents) (d : ℕ) (hs : List ℕ) (rs ss : SmallVec ℕ) → IsStore old → IsDiagramOf old d
     → 0 < dimension_of (diagram_at old d)
-    → hs ≡ upto (length (sings (diagram_at old d))) → Grows old mid
-    → Gathers mid.arrows rs (length (sings (diagram_at old d)) + 1) (λ j. identity_tree (reg_at (diagram_at old d) j))
-    → Grows mid new
-    → Gathers new.arrows ss (length (sings (diagram_at mid d))) (λ i. identity_tree (sing_at (diagram_at mid d) i))
-    → zag hs (picked new.arrows rs) (picked new.arrows ss) ≡ identity_tree (diagram_at old d)
-described_identity old mid new d hs rs ss store l above p g r k s =
+    → hs ≡ upto (length (sings (diagram_at old d)))
+    → MakesArrows {E = E} old mid (length (sings (diagram_at old d)) + 1) (λ j. identity_tree (reg_at (diagram_at old d) j)) (Ok rs)
+    → MakesArrows {E = E} mid new (length (sings (diagram_at mid d))) (λ i. identity_tree (sing_at (diagram_at mid d) i)) (Ok ss)
+    → zag hs (picked new.arrows rs.items) (picked new.arrows ss.items) ≡ identity_tree (diagram_at old d)
+described_identity old mid new d hs rs ss store l above p r s =
     let t = diagram_at old d in
-    let r2 = gathers-arrows_grow mid new rs _ _ k r in
-    let s2 = subst (λ (u : Tree). Gathers new.arrows ss (length (sings u)) (λ i. identity_tree (sing_at u i)))
-    (g.diagram_trees d l) s in
-    above_zero (dimension_of t) t (picked new.arrows rs) (picked new.arrows ss) hs (store.diagrams d l) above p
-    (gathers-picked new.arrows rs _ _ r2) (gathers-picked new.arrows ss _ _ s2)
+    let r2 = gathers-arrows_grow mid new rs.items _ _ s.grows r.gathers in
+    let s2 = subst (λ (u : Tree). Gathers new.arrows ss.items (length (sings u)) (λ i. identity_tree (sing_at u i)))
+    (r.grows.diagram_trees d l) s.gathers in
+    above_zero (dimension_of t) t (picked new.arrows rs.items) (picked new.arrows ss.items) hs (store.diagrams d l) above p
+    (gathers-picked new.arrows rs.items _ _ r2) (gathers-picked new.arrows ss.items _ _ s2)
 
-pub ruleset identifies = (Grows-refl, Grows-trans, diagram-kept, arrow-kept, diagram_at-kept, arrow_at-kept, kept-grows, length-regs, length-fwds, length-bwds, dimension_of-reg_at, dimension_of-sing_at)
+pub ruleset identifies = (Grows-refl, Grows-trans, diagram-kept, arrow-kept, diagram_at-kept, arrow_at-kept, length-regs, length-fwds, length-bwds, dimension_of-reg_at, dimension_of-sing_at)

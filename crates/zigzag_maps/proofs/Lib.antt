@@ -11,3 +11,4 @@ pub mod Verdicts
 pub mod VisitLemmas
 pub mod Visiting
 mod ValidMaps
+pub mod WalkLemmas

@@ -13,9 +13,11 @@ use Rattle.map_laws.proofs.ValidComposites.{composites_are_valid}
 use Rattle.hashcons.specs.Contents.{Contents, Grows, IsArrowOf, diagram_at, arrow_at}
 use Rattle.zigzag_maps.specs.declared.map.Map.{Map}
 use Rattle.zigzag_maps.specs.Found.{IsValidDiagram, IsValidMap}
-use Rattle.zigzag_maps.specs.Trees.{identity_tree, composite_tree, IsValidTree, IsArrowBetween}
-use Rattle.zigzag_maps.proofs.CompositeLemmas.{composite_shape, composite_tree_at, composable_between_at}
-use Rattle.zigzag_maps.proofs.IdentityLemmas.{identity_shape, identity_tree_at}
+use Rattle.diagram_terms.specs.Operations.{identity_tree, composite_tree}
+use Rattle.diagram_terms.specs.ValidTrees.{IsValidTree, IsArrowBetween}
+use Rattle.zigzag_maps.proofs.CompositeLemmas.{composite_shape, composable_between_at}
+use Rattle.zigzag_maps.proofs.IdentityLemmas.{identity_shape}
+use Rattle.diagram_terms.proofs.NotionsOnTrees.{on_diagram_at, on_arrow_at}
 use Rattle.zigzag_maps.proofs.KeepLemmas.{valid_diagram-grows}
 
 -- ---- trees
@@ -26,7 +28,7 @@ identity_between t h =
     let n = h.dim in
     let shape = h.at_dim.shape in
     let is : arr n (identity_tree t) ≡ ident n (dia n t) =
-    ap (arr n) (identity_tree_at n t shape) ∙ arr-arr_tree n (ident n (dia n t)) in
+    ap (arr n) (on_diagram_at _ n t shape) ∙ arr-arr_tree n (ident n (dia n t)) in
     record {
       dim = n;
       at_dim = record {
@@ -50,7 +52,7 @@ composite_between s m t g f vs vm vt a b =
     let target = subst (λ (d : ℕ). IsDiagram d t) e b.at_dim.target in
     let outer = subst (λ (d : ℕ). ValidArrow d (dia d m) (dia d t) (arr d g)) e b.at_dim.valid in
     let is : arr n (composite_tree g f) ≡ comp n (arr n g) (arr n f) =
-    ap (arr n) (composite_tree_at n g f a.at_dim.shape) ∙ arr-arr_tree n (comp n (arr n g) (arr n f)) in
+    ap (arr n) (on_arrow_at _ n f a.at_dim.shape) ∙ arr-arr_tree n (comp n (arr n g) (arr n f)) in
     record {
       dim = n;
       at_dim = record {

@@ -1,6 +1,5 @@
 -- The tests of a diagram, by its slices and its legs.
-use Rattle.std.proofs.Common.{◌≡◌, ℕ, zero, suc, ◌-◌, ◌<◌, ◌≤◌, List, ◌++◌, length, None, Some, refl, sym, ap, subst, ◌∙◌, arith}
-use Rattle.diagram_terms.specs.declared.place.Place.{Place}
+use Rattle.std.proofs.Common.{◌≡◌, ℕ, zero, suc, ◌-◌, ◌<◌, ◌≤◌, List, ◌++◌, length, None, refl, sym, ap, subst, ◌∙◌, arith}
 use Rattle.diagram_terms.specs.declared.place.Step.TheVariants as step
 use Rattle.diagram_terms.specs.Tree.{Tree, sings, fwds, bwds}
 use Rattle.diagram_terms.specs.Family.{Dia, reg, sing, fwd, bwd}
@@ -11,11 +10,14 @@ use Rattle.diagram_terms.specs.Places as family
 use Rattle.diagram_terms.proofs.Dimensions.{diagram_dimension}
 use Rattle.diagram_terms.proofs.FirstFaults.{no_bad_place}
 use Rattle.diagram_terms.proofs.Glue.{dia-sings_len, dia-reg, dia-sing, dia-fwd, dia-bwd}
-use Rattle.diagram_terms.proofs.Visiting.{append_fails, append_passes}
-use Rattle.zigzag_maps.proofs.Visiting.{passed_under, passed_each, same_each}
-use Rattle.zigzag_maps.specs.Trees.{IsValidTreeAt}
+use Rattle.zigzag_maps.proofs.Visiting.{same_each}
+use Rattle.diagram_terms.specs.ValidTrees.{IsValidTreeAt}
 use Rattle.zigzag_maps.specs.Visits.{diagram_fault}
-use Rattle.zigzag_maps.specs.Validity.{tests_in, reg_slice_tests, sing_slice_tests, fwd_tests, bwd_tests, leg_tests, HasValidParts}
+use Rattle.zigzag_maps.specs.Validity.{tests_in, reg_slice_tests, sing_slice_tests, fwd_tests, bwd_tests, leg_tests, legs_of, HasValidParts}
+use Rattle.diagram_terms.specs.Order.{steps, in_order, PassedBefore}
+use Rattle.zigzag_maps.specs.Walks.{IsWalk, tests_in_part, tests_to_part}
+use Rattle.diagram_terms.proofs.NotionsOnTrees.{above}
+use Rattle.diagram_terms.proofs.NextSteps.{by_steps}
 use Rattle.zigzag_maps.proofs.VisitLemmas.{tests_between_at}
 
 pub tests_in_at : (d : ℕ) (t : Tree) → IsDiagram d t → tests_in t ≡ tests_of d (dia d t)
@@ -88,25 +90,6 @@ module _ (d : ℕ) (t : Tree) (h : IsDiagram (suc d) t) where
       ap (λ n. at_each n (family.leg_tests d X)) x ∙ same_each _ (leg_tests t) (length (sings t)) leg_is in
       tests_in_at (suc d) t h ∙ (λ i. p i ++ q i ++ r i)
 
-  reg_fails_at : (p : Place) → first_failure all_regs ≡ Some p → first_failure (tests_in t) ≡ Some p
-  reg_fails_at p e = ap first_failure parts_are ∙ append_fails (all_regs ++ all_sings) all_legs p (append_fails all_regs all_sings p e)
-
-  module _ (regs_pass : first_failure all_regs ≡ None) where
-    sing_fails_at : (p : Place) → first_failure all_sings ≡ Some p → first_failure (tests_in t) ≡ Some p
-    sing_fails_at p e = ap first_failure parts_are ∙ append_fails (all_regs ++ all_sings) all_legs p (append_passes all_regs all_sings regs_pass ∙ e)
-
-    module _ (sings_pass : first_failure all_sings ≡ None) where
-      legs_decide_at : first_failure (tests_in t) ≡ first_failure all_legs
-      legs_decide_at = ap first_failure parts_are ∙ append_passes (all_regs ++ all_sings) all_legs (append_passes all_regs all_sings regs_pass ∙ sings_pass)
-
-      parts_valid_at : HasValidParts d t
-      parts_valid_at = record {
-        reg_slices = λ j l. valid_from d (reg_at t j) (h.regs_are j l)
-            (passed_under (step.R j) (tests_in (reg_at t j)) (passed_each (reg_slice_tests t) (suc (length (sings t))) regs_pass j (omega arith)));
-        sing_slices = λ i l. valid_from d (sing_at t i) (h.sings_are i l)
-            (passed_under (step.S i) (tests_in (sing_at t i)) (passed_each (sing_slice_tests t) (length (sings t)) sings_pass i l));
-      }
-
 -- ---- at a dimension that is a number of the program
 
 -- there are as many legs of each kind as singular slices
@@ -114,25 +97,19 @@ pub legs_len : (n : ℕ) (t : Tree) → 0 < n → IsDiagram n t → (length (fwd
 legs_len zero t l h = absurd (omega arith)
 legs_len (suc d) t l h = (h.fwds_len, h.bwds_len)
 
-module _ (t : Tree) where
-  pub reg_part_fails : (n : ℕ) → 0 < n → IsDiagram n t → (p : Place)
-      → first_failure (at_each (suc (length (sings t))) (reg_slice_tests t)) ≡ Some p → first_failure (tests_in t) ≡ Some p
-  reg_part_fails zero l h p e = absurd (omega arith)
-  reg_part_fails (suc d) l h p e = reg_fails_at d t h p e
+-- above dimension 0 the tests are those of the parts, in the order of the steps
+tests_in_order : (n : ℕ) → 0 < n → (t : Tree) → IsDiagram n t → in_order (steps (length (sings t))) (tests_to_part tests_in legs_of t) ≡ tests_in t
+tests_in_order = above _ (λ d t h. sym (by_steps (tests_to_part tests_in legs_of t) (length (sings t))) ∙ sym (parts_are d t h))
 
-  module _ (regs_pass : first_failure (at_each (suc (length (sings t))) (reg_slice_tests t)) ≡ None) where
-    pub sing_part_fails : (n : ℕ) → 0 < n → IsDiagram n t → (p : Place)
-        → first_failure (at_each (length (sings t)) (sing_slice_tests t)) ≡ Some p → first_failure (tests_in t) ≡ Some p
-    sing_part_fails zero l h p e = absurd (omega arith)
-    sing_part_fails (suc d) l h p e = sing_fails_at d t h regs_pass p e
+pub tests_walk : IsWalk tests_in legs_of
+tests_walk = record { none_in_zero = λ t h. sym (none_in_zero t h); parts = tests_in_order }
 
-    module _ (sings_pass : first_failure (at_each (length (sings t)) (sing_slice_tests t)) ≡ None) where
-      pub legs_decide : (n : ℕ) → 0 < n → IsDiagram n t → first_failure (tests_in t) ≡ first_failure (at_each (length (sings t)) (leg_tests t))
-      legs_decide zero l h = absurd (omega arith)
-      legs_decide (suc d) l h = legs_decide_at d t h regs_pass sings_pass
-
-      pub parts_valid : (n : ℕ) → 0 < n → IsDiagram n t → HasValidParts (n - 1) t
-      parts_valid zero l h = absurd (omega arith)
-      parts_valid (suc d) l h =
-          let e : d ≡ suc d - 1 = omega arith in
-          subst (λ n. HasValidParts n t) e (parts_valid_at d t h regs_pass sings_pass)
+-- slices that passed are valid
+pub parts_valid : (n : ℕ) → 0 < n → (t : Tree) → IsDiagram n t
+    → PassedBefore (tests_in_part tests_in legs_of t) (suc (length (sings t))) (length (sings t)) → HasValidParts (n - 1) t
+parts_valid = above _ (λ d t h passed.
+    let e : d ≡ suc d - 1 = omega arith in
+    subst (λ n. HasValidParts n t) e (record {
+      reg_slices = λ j l. valid_from d (reg_at t j) (h.regs_are j l) (sym (passed.regs_pass j (omega arith)));
+      sing_slices = λ i l. valid_from d (sing_at t i) (h.sings_are i l) (sym (passed.sings_pass i l));
+    }))

@@ -1,19 +1,16 @@
 -- The first fault of a diagram of a store, slice by slice and leg by leg.
-use Rattle.std.proofs.Common.{◌≡◌, ℕ, zero, suc, ◌-◌, ◌<◌, ◌≤◌, length, Option, option_map, None, sym, ap, subst, ◌∙◌, arith}
-use Rattle.diagram_terms.specs.declared.place.Place.{Place}
-use Rattle.diagram_terms.specs.declared.place.Step.TheVariants as step
+use Rattle.std.proofs.Common.{◌≡◌, ℕ, zero, suc, ◌-◌, ◌<◌, ◌≤◌, length, None, sym, subst, arith}
 use Rattle.diagram_terms.specs.Tree.{Tree, sings}
 use Rattle.diagram_terms.specs.Shape.{IsDiagram, IsArrow, reg_at, sing_at, fwd_at, bwd_at}
-use Rattle.diagram_terms.specs.Places.{further_in, first_failure}
-use Rattle.diagram_terms.proofs.Visiting.{first_failure-under}
+use Rattle.diagram_terms.specs.Places.{first_failure}
 use Rattle.hashcons.specs.Contents.{Contents, Grows, IsDiagramOf, IsArrowOf, diagram_at, arrow_at}
 use Rattle.hashcons.proofs.ContentsLemmas.{Grows-refl}
-use Rattle.hashcons.proofs.Growth.{Grows-trans, diagram-kept, arrow-kept}
+use Rattle.hashcons.proofs.Growth.{Grows-trans, store-kept, diagram-kept, arrow-kept}
 use Rattle.zigzag_maps.specs.declared.map.Map.{Map}
 use Rattle.zigzag_maps.specs.Found.{IsValidDiagram}
-use Rattle.zigzag_maps.specs.Trees.{IsValidTreeAt}
-use Rattle.zigzag_maps.specs.Visits.{IsMapAt, tests_between}
-use Rattle.zigzag_maps.specs.Validity.{IsDiagramAt, HasValidParts, tests_in, reg_slice_tests, sing_slice_tests, fwd_tests, bwd_tests}
+use Rattle.diagram_terms.specs.ValidTrees.{IsValidTreeAt}
+use Rattle.zigzag_maps.specs.Visits.{IsMapAt}
+use Rattle.zigzag_maps.specs.Validity.{IsDiagramAt, HasValidParts, tests_in}
 use Rattle.zigzag_maps.proofs.KeepLemmas.{kept-grows}
 use Rattle.zigzag_maps.proofs.ValidityLemmas.{valid_from, valid_passes}
 
@@ -28,7 +25,9 @@ is_diagram_at-grows old new n d g h = record {
 pub parts-grow : (old new : Contents) (n m d : ℕ) → Grows old new → IsDiagramAt old n d → HasValidParts m (diagram_at old d) → HasValidParts m (diagram_at new d)
 parts-grow old new n m d g h p = subst (HasValidParts m) (sym (g.diagram_trees d h.of_store)) p
 
-pub ruleset diagrams = (Grows-refl, Grows-trans, diagram-kept, arrow-kept, kept-grows, is_diagram_at-grows, parts-grow)
+pub ruleset diagrams = (Grows-refl, Grows-trans, store-kept, diagram-kept, arrow-kept, kept-grows, is_diagram_at-grows, parts-grow)
+
+pub ruleset steps = (Grows-refl, Grows-trans, store-kept, diagram-kept, arrow-kept, is_diagram_at-grows)
 
 -- ---- what was kept, and what is to be kept
 
@@ -54,18 +53,6 @@ module _ (c : Contents) (d s : ℕ) (slice : IsDiagramOf c s) where
   pub sing_slice : (n i : ℕ) → 0 < n → IsDiagramAt c n d → i < length (sings (diagram_at c d)) → diagram_at c s ≡ sing_at (diagram_at c d) i → IsDiagramAt c (n - 1) s
   sing_slice zero i above h l e = absurd (omega arith)
   sing_slice (suc n) i above h l e = let k : n ≡ suc n - 1 = omega arith in subst (λ m. IsDiagramAt c m s) k (sing_slice_at n i h l e)
-
-  -- what was found in a slice
-  module _ (found : Option Place) (is : found ≡ first_failure (tests_in (diagram_at c s))) where
-    pub reg_slice_found : (j : ℕ) → diagram_at c s ≡ reg_at (diagram_at c d) j → option_map (further_in (step.R j)) found ≡ first_failure (reg_slice_tests (diagram_at c d) j)
-    reg_slice_found j e =
-        ap (option_map (further_in (step.R j))) (is ∙ ap (λ t. first_failure (tests_in t)) e)
-        ∙ sym (first_failure-under (step.R j) (tests_in (reg_at (diagram_at c d) j)))
-
-    pub sing_slice_found : (i : ℕ) → diagram_at c s ≡ sing_at (diagram_at c d) i → option_map (further_in (step.S i)) found ≡ first_failure (sing_slice_tests (diagram_at c d) i)
-    sing_slice_found i e =
-        ap (option_map (further_in (step.S i))) (is ∙ ap (λ t. first_failure (tests_in t)) e)
-        ∙ sym (first_failure-under (step.S i) (tests_in (sing_at (diagram_at c d) i)))
 
 -- ---- the legs
 
@@ -98,17 +85,3 @@ module _ (c : Contents) (d : ℕ) (m : Map) (source : IsDiagramOf c m.source) (t
       let e : n ≡ suc n - 1 = omega arith in
       let arrow_shape = subst (λ i. IsArrow i (bwd_at (diagram_at c d) k)) e (h.shape.bwds_are k l) in
       leg_at (suc n - 1) k (suc k) (bwd_at (diagram_at c d) k) arrow_shape parts (omega arith) l p q r
-
-  -- what was found in a leg
-  module _ (found : Option Place) (is : found ≡ first_failure (tests_between (diagram_at c m.source) (diagram_at c m.target) (arrow_at c m.arrow))) where
-    pub fwd_found : (k : ℕ) → diagram_at c m.source ≡ reg_at (diagram_at c d) k → diagram_at c m.target ≡ sing_at (diagram_at c d) k → arrow_at c m.arrow ≡ fwd_at (diagram_at c d) k
-        → option_map (further_in (step.F k)) found ≡ first_failure (fwd_tests (diagram_at c d) k)
-    fwd_found k p q r =
-        ap (option_map (further_in (step.F k))) (is ∙ (λ i. first_failure (tests_between (p i) (q i) (r i))))
-        ∙ sym (first_failure-under (step.F k) (tests_between (reg_at (diagram_at c d) k) (sing_at (diagram_at c d) k) (fwd_at (diagram_at c d) k)))
-
-    pub bwd_found : (k : ℕ) → diagram_at c m.source ≡ reg_at (diagram_at c d) (suc k) → diagram_at c m.target ≡ sing_at (diagram_at c d) k → arrow_at c m.arrow ≡ bwd_at (diagram_at c d) k
-        → option_map (further_in (step.B k)) found ≡ first_failure (bwd_tests (diagram_at c d) k)
-    bwd_found k p q r =
-        ap (option_map (further_in (step.B k))) (is ∙ (λ i. first_failure (tests_between (p i) (q i) (r i))))
-        ∙ sym (first_failure-under (step.B k) (tests_between (reg_at (diagram_at c d) (suc k)) (sing_at (diagram_at c d) k) (bwd_at (diagram_at c d) k)))

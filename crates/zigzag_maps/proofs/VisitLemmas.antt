@@ -19,7 +19,7 @@ use Rattle.diagram_terms.proofs.Glue.{dia-sings_len, dia-reg, dia-sing, arr-regs
 use Rattle.diagram_terms.proofs.Shapes.{dia-point, arr-ends, IsArrow-ends}
 use Rattle.diagram_terms.proofs.Visiting.{append_fails, append_passes, here_passes}
 use Rattle.zigzag_maps.proofs.Visiting.{passed_under, passed_each, same_each}
-use Rattle.zigzag_maps.specs.Trees.{IsArrowBetweenAt}
+use Rattle.diagram_terms.specs.ValidTrees.{IsArrowBetweenAt}
 use Rattle.zigzag_maps.specs.Visits.{tests_between, reg_tests, sing_tests, square_holds, square_tests, lengths_are, FitsEnds, HasValidSlices}
 
 abbrev pub ends_place : Place

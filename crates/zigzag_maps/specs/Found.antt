@@ -1,21 +1,11 @@
 -- What is found out about ids of a store.
-use Rattle.std.specs.Prelude.{◌≡◌, ℕ}
+use Rattle.std.specs.Prelude.{ℕ, Result}
+use Rattle.diagram_terms.specs.Tree.{Tree}
+use Rattle.hashcons.specs.declared.id.AnyId.TheVariants as id
 use Rattle.hashcons.specs.Contents.{Contents, IsDiagramOf, IsArrowOf, diagram_at, arrow_at}
+use Rattle.hashcons.specs.Made.{Makes}
 use Rattle.zigzag_maps.specs.declared.map.Map.{Map}
-use Rattle.zigzag_maps.specs.Trees.{identity_tree, composite_tree, IsValidTree, IsArrowBetween}
-
--- a is the identity arrow of d
-pub record IsIdentityOf (c : Contents) (d a : ℕ) : Type 0 where
-  pub diagram : IsDiagramOf c d
-  pub identity : IsArrowOf c a
-  pub tree : arrow_at c a ≡ identity_tree (diagram_at c d)
-
--- h is the composite of g after f
-pub record IsCompositeOf (c : Contents) (g f h : ℕ) : Type 0 where
-  pub outer : IsArrowOf c g
-  pub inner : IsArrowOf c f
-  pub composite : IsArrowOf c h
-  pub tree : arrow_at c h ≡ composite_tree (arrow_at c g) (arrow_at c f)
+use Rattle.diagram_terms.specs.ValidTrees.{IsValidTree, IsArrowBetween}
 
 -- d is a valid diagram
 pub record IsValidDiagram (c : Contents) (d : ℕ) : Type 0 where
@@ -28,3 +18,7 @@ pub record IsValidMap (c : Contents) (m : Map) : Type 0 where
   pub target : IsValidDiagram c m.target
   pub arrow : IsArrowOf c m.arrow
   pub between : IsArrowBetween (diagram_at c m.source) (diagram_at c m.target) (arrow_at c m.arrow)
+
+-- the answer is a map whose arrow has this tree
+abbrev pub MakesMap : {E : Type 0} → Contents → Contents → Tree → Result Map E → Type 0
+MakesMap old new t r = Makes (λ m. id.Arrow m.arrow) old new t r

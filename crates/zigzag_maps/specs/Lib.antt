@@ -1,5 +1,5 @@
 pub mod Found
 pub mod Keeps
-pub mod Trees
 pub mod Visits
 pub mod Validity
+pub mod Walks

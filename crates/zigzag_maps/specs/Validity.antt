@@ -1,5 +1,6 @@
 -- The tests of a diagram of a store, part by part.
-use Rattle.std.specs.Prelude.{ℕ, suc, ◌<◌, ◌≤◌, List, ◌++◌, length}
+use Rattle.std.specs.Prelude.{ℕ, suc, ◌<◌, ◌≤◌, List, [], ◌++◌, length}
+use Rattle.diagram_terms.specs.declared.place.Step.{Step}
 use Rattle.diagram_terms.specs.declared.place.Step.TheVariants as step
 use Rattle.diagram_terms.specs.Tree.{Tree, sings}
 use Rattle.diagram_terms.specs.Dimension.{dimension_of}
@@ -7,7 +8,7 @@ use Rattle.diagram_terms.specs.Shape.{IsDiagram, reg_at, sing_at, fwd_at, bwd_at
 use Rattle.diagram_terms.specs.Decoded.{dia}
 use Rattle.diagram_terms.specs.Places.{Test, under, tests_of}
 use Rattle.hashcons.specs.Contents.{Contents, IsDiagramOf, diagram_at}
-use Rattle.zigzag_maps.specs.Trees.{IsValidTreeAt}
+use Rattle.diagram_terms.specs.ValidTrees.{IsValidTreeAt}
 use Rattle.zigzag_maps.specs.Visits.{tests_between}
 
 -- the tests of a diagram
@@ -39,3 +40,12 @@ pub record IsDiagramAt (c : Contents) (n d : ℕ) : Type 0 where
 pub record HasValidParts (n : ℕ) (t : Tree) : Type 0 where
   pub reg_slices : (j : ℕ) → j ≤ length (sings t) → IsValidTreeAt n (reg_at t j)
   pub sing_slices : (i : ℕ) → i < length (sings t) → IsValidTreeAt n (sing_at t i)
+
+-- the tests of the leg of t to which the step leads, seen from there
+abbrev pub legs_of : Tree → Step → List Test
+legs_of t step.SourceEnd = []
+legs_of t step.TargetEnd = []
+legs_of t (step.R j) = []
+legs_of t (step.S i) = []
+legs_of t (step.F k) = tests_between (reg_at t k) (sing_at t k) (fwd_at t k)
+legs_of t (step.B k) = tests_between (reg_at t (suc k)) (sing_at t k) (bwd_at t k)

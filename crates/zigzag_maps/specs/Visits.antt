@@ -1,7 +1,6 @@
 -- The first fault of a map and of a diagram of a store.
-use Rattle.std.specs.Prelude.{◌≡◌, ℕ, suc, ◌-◌, ◌<◌, List, [], ◌∷◌, length, get_or, Bool, ◌&&◌, nat_eq, if◌then◌else◌, Option, Some, None}
+use Rattle.std.specs.Prelude.{◌≡◌, ℕ, suc, ◌-◌, ◌<◌, List, [], length, get_or, Bool, ◌&&◌, nat_eq, if◌then◌else◌, Option, Some, None}
 use Rattle.diagram_terms.specs.declared.place.Place.{Place}
-use Rattle.diagram_terms.specs.declared.place.Step.{Step}
 use Rattle.diagram_terms.specs.declared.place.Step.TheVariants as step
 use Rattle.diagram_terms.specs.declared.place.End.TheVariants as at_end
 use Rattle.diagram_terms.specs.Tree.{Tree, heights, regs, sings}
@@ -14,7 +13,8 @@ use Rattle.hashcons.specs.Contents.{Contents, IsDiagramOf, IsArrowOf, diagram_at
 use Rattle.zigzag_maps.specs.declared.map.Map.{Map}
 use Rattle.zigzag_maps.specs.declared.outcome.SquareTest.{SquareTest}
 use Rattle.zigzag_maps.specs.declared.outcome.SquareTest.TheVariants as test
-use Rattle.zigzag_maps.specs.Trees.{composite_tree, IsValidTreeAt, IsArrowBetweenAt}
+use Rattle.diagram_terms.specs.Operations.{composite_tree}
+use Rattle.diagram_terms.specs.ValidTrees.{IsValidTreeAt, IsArrowBetweenAt}
 
 -- the fault that a test found, if it found one
 abbrev pub fault_of : SquareTest → Option Place

@@ -2,12 +2,11 @@ ghost use Rattle.std.specs.Prelude.{◌≡◌, ◌+◌, ◌-◌, ◌<◌, ◌≤
 ghost use Rattle.diagram_terms.specs.Dual.{dual};
 ghost use Rattle.diagram_terms.specs.Places.{at_each, first_failure, here};
 ghost use Rattle.diagram_terms.specs.Tree.{heights, regs, sings};
-ghost use Rattle.hashcons.specs.Contents.{IsDiagramOf, IsArrowOf, Grows, IsStore, diagram_at, arrow_at};
-ghost use Rattle.zigzag_maps.specs.Keeps.{AreRight};
+ghost use Rattle.hashcons.specs.Contents.{Grows, IsStore, diagram_at, arrow_at};
+ghost use Rattle.hashcons.specs.Made.{MakesArrow};
 ghost use Rattle.zigzag_maps.specs.Visits.{IsValidSlicewise, square_tests, square_holds, first_edge, last_edge, edge_before, edge_behind};
 
 use crate::composites::{composite, dual_from};
-use crate::kept::Kept;
 use crate::map::Map;
 use diagram_terms::{End, Place, place_here};
 use hashcons::{ArrowId, Store};
@@ -18,25 +17,21 @@ use std::alloc::{AllocError, Global};
 pub(crate) fn square_fault(
     alloc: Global,
     store: &mut Store,
-    kept: &mut Kept,
     dim: usize,
     f: &Map,
 ) -> Result<Option<Place>, AllocError>
     requires slicewise { IsValidSlicewise store.old dim f.now }
-    requires kept { AreRight store.old kept.old }
     requires store { IsStore store.old }
     ensures exact { IfOk result (λ found. found ≡ first_failure
         (at_each (length (sings (diagram_at store.old f.now.target)))
         (square_tests (diagram_at store.old f.now.source) (diagram_at store.old f.now.target) (arrow_at store.old f.now.arrow)))) }
-    ensures kept { AreRight store.new kept.new }
     ensures grows { Grows store.old store.new }
-    ensures store { IsStore store.new }
 {
     let mut from = 0;
     for k in 0..store.length(f.target) {
         let to = dual_from(store, f.arrow, from, k + 1);
         let fibre = Fibre { over: k, from, to };
-        if !square_commutes(alloc, store, kept, dim, f, fibre)? {
+        if !square_commutes(alloc, store, dim, f, fibre)? {
             return Ok(Some(place_here(alloc, End::Square(k))));
         }
         from = to;
@@ -58,7 +53,6 @@ struct Fibre {
 fn square_commutes(
     alloc: Global,
     store: &mut Store,
-    kept: &mut Kept,
     dim: usize,
     f: &Map,
     fibre: Fibre,
@@ -68,23 +62,20 @@ fn square_commutes(
     requires fits { fibre.over < usize.MAX }
     requires from { fibre.from ≡ dual (heights (arrow_at store.old f.now.arrow)) fibre.over }
     requires to { fibre.to ≡ dual (heights (arrow_at store.old f.now.arrow)) (fibre.over + 1) }
-    requires kept { AreRight store.old kept.old }
     requires store { IsStore store.old }
     ensures exact { IfOk result (λ commutes. commutes ≡ square_holds
         (diagram_at store.old f.now.source) (diagram_at store.old f.now.target) (arrow_at store.old f.now.arrow) fibre.over) }
-    ensures kept { AreRight store.new kept.new }
     ensures grows { Grows store.old store.new }
-    ensures store { IsStore store.new }
 {
-    let mut edge = first_edge(alloc, store, kept, dim, f, fibre.over)?;
+    let mut edge = first_edge(alloc, store, dim, f, fibre.over)?;
     for i in fibre.from..fibre.to {
-        let before = edge_before(alloc, store, kept, dim, f, i)?;
+        let before = edge_before(alloc, store, dim, f, i)?;
         if before != edge {
             return Ok(false);
         }
-        edge = edge_behind(alloc, store, kept, dim, f, i)?;
+        edge = edge_behind(alloc, store, dim, f, i)?;
     }
-    let last = last_edge(alloc, store, kept, dim, f, fibre.over)?;
+    let last = last_edge(alloc, store, dim, f, fibre.over)?;
     Ok(edge == last)
 }
 
@@ -93,24 +84,17 @@ fn square_commutes(
 fn first_edge(
     alloc: Global,
     store: &mut Store,
-    kept: &mut Kept,
     dim: usize,
     f: &Map,
     k: usize,
 ) -> Result<ArrowId, AllocError>
     requires slicewise { IsValidSlicewise store.old dim f.now }
     requires within { k < length (sings (diagram_at store.old f.now.target)) }
-    requires kept { AreRight store.old kept.old }
-    requires store { IsStore store.old }
-    ensures of_store { IfOk result (λ h. IsArrowOf store.new h) }
-    ensures tree { IfOk result (λ h. arrow_at store.new h ≡ first_edge (diagram_at store.old f.now.target) (arrow_at store.old f.now.arrow) k) }
-    ensures kept { AreRight store.new kept.new }
-    ensures grows { Grows store.old store.new }
-    ensures store { IsStore store.new }
+    ensures { MakesArrow store.old store.new (first_edge (diagram_at store.old f.now.target) (arrow_at store.old f.now.arrow) k) result }
 {
     let leg = store.fwd(f.target, k);
     let slice = store.arrow_reg(f.arrow, k);
-    composite(alloc, store, kept, dim - 1, leg, slice)
+    composite(alloc, store, dim - 1, leg, slice)
 }
 
 /// The edge along the target from the regular slice behind the height `k`.
@@ -118,7 +102,6 @@ fn first_edge(
 fn last_edge(
     alloc: Global,
     store: &mut Store,
-    kept: &mut Kept,
     dim: usize,
     f: &Map,
     k: usize,
@@ -126,17 +109,11 @@ fn last_edge(
     requires slicewise { IsValidSlicewise store.old dim f.now }
     requires within { k < length (sings (diagram_at store.old f.now.target)) }
     requires fits { k < usize.MAX }
-    requires kept { AreRight store.old kept.old }
-    requires store { IsStore store.old }
-    ensures of_store { IfOk result (λ h. IsArrowOf store.new h) }
-    ensures tree { IfOk result (λ h. arrow_at store.new h ≡ last_edge (diagram_at store.old f.now.target) (arrow_at store.old f.now.arrow) k) }
-    ensures kept { AreRight store.new kept.new }
-    ensures grows { Grows store.old store.new }
-    ensures store { IsStore store.new }
+    ensures { MakesArrow store.old store.new (last_edge (diagram_at store.old f.now.target) (arrow_at store.old f.now.arrow) k) result }
 {
     let leg = store.bwd(f.target, k);
     let slice = store.arrow_reg(f.arrow, k + 1);
-    composite(alloc, store, kept, dim - 1, leg, slice)
+    composite(alloc, store, dim - 1, leg, slice)
 }
 
 /// The edge through the height `i` of the source from the regular slice before it.
@@ -144,24 +121,17 @@ fn last_edge(
 fn edge_before(
     alloc: Global,
     store: &mut Store,
-    kept: &mut Kept,
     dim: usize,
     f: &Map,
     i: usize,
 ) -> Result<ArrowId, AllocError>
     requires slicewise { IsValidSlicewise store.old dim f.now }
     requires within { i < length (heights (arrow_at store.old f.now.arrow)) }
-    requires kept { AreRight store.old kept.old }
-    requires store { IsStore store.old }
-    ensures of_store { IfOk result (λ h. IsArrowOf store.new h) }
-    ensures tree { IfOk result (λ h. arrow_at store.new h ≡ edge_before (diagram_at store.old f.now.source) (arrow_at store.old f.now.arrow) i) }
-    ensures kept { AreRight store.new kept.new }
-    ensures grows { Grows store.old store.new }
-    ensures store { IsStore store.new }
+    ensures { MakesArrow store.old store.new (edge_before (diagram_at store.old f.now.source) (arrow_at store.old f.now.arrow) i) result }
 {
     let slice = store.arrow_sing(f.arrow, i);
     let leg = store.fwd(f.source, i);
-    composite(alloc, store, kept, dim - 1, slice, leg)
+    composite(alloc, store, dim - 1, slice, leg)
 }
 
 /// The edge through the height `i` of the source from the regular slice behind it.
@@ -169,22 +139,15 @@ fn edge_before(
 fn edge_behind(
     alloc: Global,
     store: &mut Store,
-    kept: &mut Kept,
     dim: usize,
     f: &Map,
     i: usize,
 ) -> Result<ArrowId, AllocError>
     requires slicewise { IsValidSlicewise store.old dim f.now }
     requires within { i < length (heights (arrow_at store.old f.now.arrow)) }
-    requires kept { AreRight store.old kept.old }
-    requires store { IsStore store.old }
-    ensures of_store { IfOk result (λ h. IsArrowOf store.new h) }
-    ensures tree { IfOk result (λ h. arrow_at store.new h ≡ edge_behind (diagram_at store.old f.now.source) (arrow_at store.old f.now.arrow) i) }
-    ensures kept { AreRight store.new kept.new }
-    ensures grows { Grows store.old store.new }
-    ensures store { IsStore store.new }
+    ensures { MakesArrow store.old store.new (edge_behind (diagram_at store.old f.now.source) (arrow_at store.old f.now.arrow) i) result }
 {
     let slice = store.arrow_sing(f.arrow, i);
     let leg = store.bwd(f.source, i);
-    composite(alloc, store, kept, dim - 1, slice, leg)
+    composite(alloc, store, dim - 1, slice, leg)
 }

@@ -1,15 +1,14 @@
-ghost use Rattle.std.specs.Prelude.{◌≡◌, ◌+◌, ◌<◌, ◌≤◌, IfOk, length, slice_index};
+ghost use Rattle.std.specs.Prelude.{◌≡◌, ◌+◌, ◌<◌, ◌≤◌, IfOk, length, slice_index, IsOk, IsSome, Some};
 ghost use Rattle.diagram_terms.specs.Dimension.{dimension_of};
 ghost use Rattle.diagram_terms.specs.Dual.{after, dual};
 ghost use Rattle.diagram_terms.specs.Shape.{reg_at, sing_at};
 ghost use Rattle.diagram_terms.specs.Tree.{heights, regs, sings};
-ghost use Rattle.hashcons.specs.Contents.{IsArrowOf, Grows, IsStore, arrow_at};
-ghost use Rattle.hashcons.specs.Gathers.{Gathers};
-ghost use Rattle.zigzag_maps.specs.Found.{IsValidMap};
-ghost use Rattle.zigzag_maps.specs.Keeps.{AreRight};
-ghost use Rattle.zigzag_maps.specs.Trees.{AreComposable, composite_tree};
+ghost use Rattle.hashcons.specs.Contents.{IsArrowOf, IsStore, arrow_at, noted_composite};
+ghost use Rattle.hashcons.specs.Made.{MakesArrow, MakesArrows};
+ghost use Rattle.zigzag_maps.specs.Found.{IsValidMap, MakesMap};
+ghost use Rattle.diagram_terms.specs.Operations.{composite_tree};
+ghost use Rattle.diagram_terms.specs.ValidTrees.{AreComposable};
 
-use crate::kept::Kept;
 use crate::map::Map;
 use hashcons::{AnyId, ArrowId, ArrowNode, Store};
 use smallvec::SmallVec;
@@ -22,16 +21,14 @@ pub fn compose(alloc: Global, store: &mut Store, g: Map, f: Map) -> Result<Map, 
     requires meet { f.target ≡ g.source }
     ensures source { IfOk result (λ m. m.source ≡ f.source) }
     ensures target { IfOk result (λ m. m.target ≡ g.target) }
-    ensures of_store { IfOk result (λ m. IsArrowOf store.new m.arrow) }
-    ensures tree { IfOk result (λ m. arrow_at store.new m.arrow
-        ≡ composite_tree (arrow_at store.old g.arrow) (arrow_at store.old f.arrow)) }
+    ensures made { MakesMap store.old store.new
+        (composite_tree (arrow_at store.old g.arrow) (arrow_at store.old f.arrow)) result }
     ensures valid { IfOk result (IsValidMap store.new) }
-    ensures grows { Grows store.old store.new }
-    ensures store { IsStore store.new }
+    ensures noted { IfOk result (λ m. noted_composite store.new g.arrow f.arrow ≡ Some m.arrow) }
+    ensures known { IsSome (noted_composite store.old g.arrow f.arrow) → IsOk result × (store.new ≡ store.old) }
 {
     let dim = store.dim(AnyId::Arrow(f.arrow));
-    let mut kept = Kept::new(alloc);
-    let arrow = composite(alloc, store, &mut kept, dim, g.arrow, f.arrow)?;
+    let arrow = composite(alloc, store, dim, g.arrow, f.arrow)?;
     Ok(Map {
         source: f.source,
         target: g.target,
@@ -45,7 +42,6 @@ pub fn compose(alloc: Global, store: &mut Store, g: Map, f: Map) -> Result<Map, 
 pub(crate) fn composite(
     alloc: Global,
     store: &mut Store,
-    kept: &mut Kept,
     dim: usize,
     g: ArrowId,
     f: ArrowId,
@@ -54,30 +50,25 @@ pub(crate) fn composite(
     requires inner { IsArrowOf store.old f }
     requires dim { dim ≡ dimension_of (arrow_at store.old f) }
     requires composable { AreComposable (arrow_at store.old g) (arrow_at store.old f) }
-    requires kept { AreRight store.old kept.old }
-    requires store { IsStore store.old }
-    ensures of_store { IfOk result (λ h. IsArrowOf store.new h) }
-    ensures tree { IfOk result (λ h. arrow_at store.new h
-        ≡ composite_tree (arrow_at store.old g) (arrow_at store.old f)) }
-    ensures kept { AreRight store.new kept.new }
-    ensures grows { Grows store.old store.new }
-    ensures store { IsStore store.new }
+    ensures made { MakesArrow store.old store.new
+        (composite_tree (arrow_at store.old g) (arrow_at store.old f)) result }
+    ensures noted { IfOk result (λ h. noted_composite store.new g f ≡ Some h) }
+    ensures known { IsSome (noted_composite store.old g f) → IsOk result × (store.new ≡ store.old) }
 {
-    if let Some(known) = kept.composite(g, f) {
+    if let Some(known) = store.known_composite(g, f) {
         return Ok(known);
     }
-    let arrow = composite_anew(alloc, store, kept, dim, g, f)?;
-    kept.keep_composite(g, f, arrow)?;
+    let arrow = composite_anew(alloc, store, dim, g, f)?;
+    store.note_composite(g, f, arrow)?;
     Ok(arrow)
 }
 
-/// The composite of two arrows that is not kept.
+/// The composite of two arrows that is not noted.
 #[cycle(composites)]
 #[tactic(auto, using(crate::proofs::CompositeLemmas::composes))]
 fn composite_anew(
     alloc: Global,
     store: &mut Store,
-    kept: &mut Kept,
     dim: usize,
     g: ArrowId,
     f: ArrowId,
@@ -86,21 +77,16 @@ fn composite_anew(
     requires inner { IsArrowOf store.old f }
     requires dim { dim ≡ dimension_of (arrow_at store.old f) }
     requires composable { AreComposable (arrow_at store.old g) (arrow_at store.old f) }
-    requires kept { AreRight store.old kept.old }
     requires store { IsStore store.old }
-    ensures of_store { IfOk result (λ h. IsArrowOf store.new h) }
-    ensures tree { IfOk result (λ h. arrow_at store.new h
-        ≡ composite_tree (arrow_at store.old g) (arrow_at store.old f)) }
-    ensures kept { AreRight store.new kept.new }
-    ensures grows { Grows store.old store.new }
-    ensures store { IsStore store.new }
+    ensures { MakesArrow store.old store.new
+        (composite_tree (arrow_at store.old g) (arrow_at store.old f)) result }
 {
     if dim == 0 {
         return composite_of_pairs(store, g, f);
     }
     let heights = composite_heights(alloc, store, g, f)?;
-    let regs = regular_composites(alloc, store, kept, dim, g, f)?;
-    let sings = singular_composites(alloc, store, kept, dim, g, f)?;
+    let regs = regular_composites(alloc, store, dim, g, f)?;
+    let sings = singular_composites(alloc, store, dim, g, f)?;
     store.put_arrow(ArrowNode::Zig {
         heights,
         regs,
@@ -114,11 +100,8 @@ fn composite_of_pairs(store: &mut Store, g: ArrowId, f: ArrowId) -> Result<Arrow
     requires inner { IsArrowOf store.old f }
     requires outer_zero { dimension_of (arrow_at store.old g) ≡ 0 }
     requires inner_zero { dimension_of (arrow_at store.old f) ≡ 0 }
-    ensures of_store { IfOk result (λ h. IsArrowOf store.new h) }
-    ensures tree { IfOk result (λ h. arrow_at store.new h
-        ≡ composite_tree (arrow_at store.old g) (arrow_at store.old f)) }
-    ensures grows { Grows store.old store.new }
-    ensures store { IsStore store.new }
+    ensures { MakesArrow store.old store.new
+        (composite_tree (arrow_at store.old g) (arrow_at store.old f)) result }
 {
     let (_, last) = store.pair(g);
     let (first, _) = store.pair(f);
@@ -152,7 +135,6 @@ fn composite_heights(
 fn regular_composites(
     alloc: Global,
     store: &mut Store,
-    kept: &mut Kept,
     dim: usize,
     g: ArrowId,
     f: ArrowId,
@@ -162,26 +144,21 @@ fn regular_composites(
     requires composable { AreComposable (arrow_at store.old g) (arrow_at store.old f) }
     requires dim { dim ≡ dimension_of (arrow_at store.old f) }
     requires above { 0 < dim }
-    requires kept { AreRight store.old kept.old }
     requires store { IsStore store.old }
-    ensures gathers { IfOk result (λ ids. Gathers store.new.arrows ids.items
-        (length (regs (arrow_at store.old g)))
+    ensures { MakesArrows store.old store.new (length (regs (arrow_at store.old g)))
         (λ k. composite_tree (reg_at (arrow_at store.old g) k)
-        (reg_at (arrow_at store.old f) (dual (heights (arrow_at store.old g)) k)))) }
-    ensures kept { AreRight store.new kept.new }
-    ensures grows { Grows store.old store.new }
-    ensures store { IsStore store.new }
+        (reg_at (arrow_at store.old f) (dual (heights (arrow_at store.old g)) k))) result }
 {
     let mut ids = SmallVec::new(alloc);
     let outer = store.arrow_reg(g, 0);
     let inner = store.arrow_reg(f, 0);
-    ids.push(composite(alloc, store, kept, dim - 1, outer, inner)?)?;
+    ids.push(composite(alloc, store, dim - 1, outer, inner)?)?;
     let mut below = 0;
     for k in 0..store.target_len(g) {
         below = dual_from(store, g, below, k + 1);
         let outer = store.arrow_reg(g, k + 1);
         let inner = store.arrow_reg(f, below);
-        ids.push(composite(alloc, store, kept, dim - 1, outer, inner)?)?;
+        ids.push(composite(alloc, store, dim - 1, outer, inner)?)?;
     }
     Ok(ids)
 }
@@ -192,7 +169,6 @@ fn regular_composites(
 fn singular_composites(
     alloc: Global,
     store: &mut Store,
-    kept: &mut Kept,
     dim: usize,
     g: ArrowId,
     f: ArrowId,
@@ -202,21 +178,16 @@ fn singular_composites(
     requires composable { AreComposable (arrow_at store.old g) (arrow_at store.old f) }
     requires dim { dim ≡ dimension_of (arrow_at store.old f) }
     requires above { 0 < dim }
-    requires kept { AreRight store.old kept.old }
     requires store { IsStore store.old }
-    ensures gathers { IfOk result (λ ids. Gathers store.new.arrows ids.items
-        (length (heights (arrow_at store.old f)))
+    ensures { MakesArrows store.old store.new (length (heights (arrow_at store.old f)))
         (λ i. composite_tree (sing_at (arrow_at store.old g) (slice_index (heights (arrow_at store.old f)) i))
-        (sing_at (arrow_at store.old f) i))) }
-    ensures kept { AreRight store.new kept.new }
-    ensures grows { Grows store.old store.new }
-    ensures store { IsStore store.new }
+        (sing_at (arrow_at store.old f) i)) result }
 {
     let mut ids = SmallVec::new(alloc);
     for i in 0..store.source_len(f) {
         let outer = store.arrow_sing(g, store.height(f, i));
         let inner = store.arrow_sing(f, i);
-        ids.push(composite(alloc, store, kept, dim - 1, outer, inner)?)?;
+        ids.push(composite(alloc, store, dim - 1, outer, inner)?)?;
     }
     Ok(ids)
 }

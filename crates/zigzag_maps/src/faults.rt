@@ -26,7 +26,6 @@ pub fn squares(alloc: Global, store: &mut Store, f: Map) -> Result<SquareTest, A
         ≡ arrow_fault (diagram_at store.old f.source) (diagram_at store.old f.target) (arrow_at store.old f.arrow)) }
     ensures yes { IfOk result (λ test. (test ≡ SquareTest.Valid) ↔ IsValidMap store.new f) }
     ensures grows { Grows store.old store.new }
-    ensures store { IsStore store.new }
 {
     let dim = store.dim(AnyId::Arrow(f.arrow));
     let source_dim = store.dim(AnyId::Diagram(f.source));
@@ -80,7 +79,6 @@ pub(crate) fn map_fault(
         (tests_between (diagram_at store.old f.now.source) (diagram_at store.old f.now.target) (arrow_at store.old f.now.arrow))) }
     ensures kept { AreRight store.new kept.new }
     ensures grows { Grows store.old store.new }
-    ensures store { IsStore store.new }
 {
     if kept.has_valid_map(f) {
         return Ok(None);
@@ -109,7 +107,6 @@ fn fault_anew(
         (tests_between (diagram_at store.old f.now.source) (diagram_at store.old f.now.target) (arrow_at store.old f.now.arrow))) }
     ensures kept { AreRight store.new kept.new }
     ensures grows { Grows store.old store.new }
-    ensures store { IsStore store.new }
 {
     if dim == 0 {
         if pair_fits(store, f) {
@@ -126,7 +123,7 @@ fn fault_anew(
     if let Some(place) = singular_fault(alloc, store, kept, dim, f)? {
         return Ok(Some(place));
     }
-    square_fault(alloc, store, kept, dim, f)
+    square_fault(alloc, store, dim, f)
 }
 
 /// Whether an arrow of dimension 0 is the pair of its ends, in order.
@@ -180,7 +177,6 @@ fn regular_fault(
         (reg_tests (diagram_at store.old f.now.source) (diagram_at store.old f.now.target) (arrow_at store.old f.now.arrow)))) }
     ensures kept { AreRight store.new kept.new }
     ensures grows { Grows store.old store.new }
-    ensures store { IsStore store.new }
 {
     let last = store.length(f.target);
     let mut below = 0;
@@ -216,7 +212,6 @@ fn regular_slice_fault(
         (reg_tests (diagram_at store.old f.now.source) (diagram_at store.old f.now.target) (arrow_at store.old f.now.arrow) j)) }
     ensures kept { AreRight store.new kept.new }
     ensures grows { Grows store.old store.new }
-    ensures store { IsStore store.new }
 {
     let slice = Map {
         source: store.reg(f.source, below),
@@ -247,7 +242,6 @@ fn singular_fault(
         (sing_tests (diagram_at store.old f.now.source) (diagram_at store.old f.now.target) (arrow_at store.old f.now.arrow)))) }
     ensures kept { AreRight store.new kept.new }
     ensures grows { Grows store.old store.new }
-    ensures store { IsStore store.new }
 {
     for i in 0..store.length(f.source) {
         let slice = Map {

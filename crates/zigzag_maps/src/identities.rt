@@ -3,13 +3,11 @@ ghost use Rattle.diagram_terms.specs.Dimension.{dimension_of};
 ghost use Rattle.diagram_terms.specs.Dual.{upto};
 ghost use Rattle.diagram_terms.specs.Shape.{reg_at, sing_at};
 ghost use Rattle.diagram_terms.specs.Tree.{sings};
-ghost use Rattle.hashcons.specs.Contents.{IsDiagramOf, IsArrowOf, Grows, IsStore, diagram_at, arrow_at};
-ghost use Rattle.hashcons.specs.Gathers.{Gathers};
-ghost use Rattle.zigzag_maps.specs.Found.{IsValidDiagram, IsValidMap};
-ghost use Rattle.zigzag_maps.specs.Keeps.{AreRight};
-ghost use Rattle.zigzag_maps.specs.Trees.{identity_tree};
+ghost use Rattle.hashcons.specs.Contents.{IsDiagramOf, IsStore, diagram_at};
+ghost use Rattle.hashcons.specs.Made.{MakesArrow, MakesArrows};
+ghost use Rattle.zigzag_maps.specs.Found.{IsValidDiagram, IsValidMap, MakesMap};
+ghost use Rattle.diagram_terms.specs.Operations.{identity_tree};
 
-use crate::kept::Kept;
 use crate::map::Map;
 use hashcons::{AnyId, ArrowId, ArrowNode, DiagramId, Store};
 use smallvec::SmallVec;
@@ -20,16 +18,11 @@ pub fn identity(alloc: Global, store: &mut Store, d: DiagramId) -> Result<Map, A
     requires of_store { IsDiagramOf store.old d }
     ensures source { IfOk result (λ m. m.source ≡ d) }
     ensures target { IfOk result (λ m. m.target ≡ d) }
-    ensures of_store { IfOk result (λ m. IsArrowOf store.new m.arrow) }
-    ensures tree { IfOk result (λ m.
-        arrow_at store.new m.arrow ≡ identity_tree (diagram_at store.old d)) }
+    ensures made { MakesMap store.old store.new (identity_tree (diagram_at store.old d)) result }
     ensures valid { IsValidDiagram store.old d → IfOk result (IsValidMap store.new) }
-    ensures grows { Grows store.old store.new }
-    ensures store { IsStore store.new }
 {
     let dim = store.dim(AnyId::Diagram(d));
-    let mut kept = Kept::new(alloc);
-    let arrow = identity_arrow(alloc, store, &mut kept, dim, d)?;
+    let arrow = identity_arrow(alloc, store, dim, d)?;
     Ok(Map {
         source: d,
         target: d,
@@ -43,55 +36,42 @@ pub fn identity(alloc: Global, store: &mut Store, d: DiagramId) -> Result<Map, A
 pub(crate) fn identity_arrow(
     alloc: Global,
     store: &mut Store,
-    kept: &mut Kept,
     dim: usize,
     d: DiagramId,
 ) -> Result<ArrowId, AllocError>
     requires of_store { IsDiagramOf store.old d }
     requires dim { dim ≡ dimension_of (diagram_at store.old d) }
-    requires kept { AreRight store.old kept.old }
-    requires store { IsStore store.old }
-    ensures of_store { IfOk result (λ a. IsArrowOf store.new a) }
-    ensures tree { IfOk result (λ a. arrow_at store.new a ≡ identity_tree (diagram_at store.old d)) }
-    ensures kept { AreRight store.new kept.new }
-    ensures grows { Grows store.old store.new }
-    ensures store { IsStore store.new }
+    ensures { MakesArrow store.old store.new (identity_tree (diagram_at store.old d)) result }
 {
-    if let Some(known) = kept.identity(d) {
+    if let Some(known) = store.known_identity(d) {
         return Ok(known);
     }
-    let arrow = identity_anew(alloc, store, kept, dim, d)?;
-    kept.keep_identity(d, arrow)?;
+    let arrow = identity_anew(alloc, store, dim, d)?;
+    store.note_identity(d, arrow)?;
     Ok(arrow)
 }
 
-/// The identity arrow of a diagram for which none is kept.
+/// The identity arrow of a diagram for which none is noted.
 #[cycle(identities)]
 #[tactic(auto, using(crate::proofs::IdentityLemmas::identifies))]
 fn identity_anew(
     alloc: Global,
     store: &mut Store,
-    kept: &mut Kept,
     dim: usize,
     d: DiagramId,
 ) -> Result<ArrowId, AllocError>
     requires of_store { IsDiagramOf store.old d }
     requires dim { dim ≡ dimension_of (diagram_at store.old d) }
-    requires kept { AreRight store.old kept.old }
     requires store { IsStore store.old }
-    ensures of_store { IfOk result (λ a. IsArrowOf store.new a) }
-    ensures tree { IfOk result (λ a. arrow_at store.new a ≡ identity_tree (diagram_at store.old d)) }
-    ensures kept { AreRight store.new kept.new }
-    ensures grows { Grows store.old store.new }
-    ensures store { IsStore store.new }
+    ensures { MakesArrow store.old store.new (identity_tree (diagram_at store.old d)) result }
 {
     if dim == 0 {
         let x = store.label(d);
         return store.put_arrow(ArrowNode::Zero(x, x));
     }
     let heights = heights_below(alloc, store.length(d))?;
-    let regs = regular_identities(alloc, store, kept, dim, d)?;
-    let sings = singular_identities(alloc, store, kept, dim, d)?;
+    let regs = regular_identities(alloc, store, dim, d)?;
+    let sings = singular_identities(alloc, store, dim, d)?;
     store.put_arrow(ArrowNode::Zig {
         heights,
         regs,
@@ -105,28 +85,22 @@ fn identity_anew(
 fn regular_identities(
     alloc: Global,
     store: &mut Store,
-    kept: &mut Kept,
     dim: usize,
     d: DiagramId,
 ) -> Result<SmallVec<ArrowId, 4>, AllocError>
     requires of_store { IsDiagramOf store.old d }
     requires dim { dim ≡ dimension_of (diagram_at store.old d) }
     requires above { 0 < dim }
-    requires kept { AreRight store.old kept.old }
     requires store { IsStore store.old }
-    ensures gathers { IfOk result (λ ids. Gathers store.new.arrows ids.items
-        (length (sings (diagram_at store.old d)) + 1)
-        (λ j. identity_tree (reg_at (diagram_at store.old d) j))) }
-    ensures kept { AreRight store.new kept.new }
-    ensures grows { Grows store.old store.new }
-    ensures store { IsStore store.new }
+    ensures { MakesArrows store.old store.new (length (sings (diagram_at store.old d)) + 1)
+        (λ j. identity_tree (reg_at (diagram_at store.old d) j)) result }
 {
     let mut ids = SmallVec::new(alloc);
     let first = store.reg(d, 0);
-    ids.push(identity_arrow(alloc, store, kept, dim - 1, first)?)?;
+    ids.push(identity_arrow(alloc, store, dim - 1, first)?)?;
     for i in 0..store.length(d) {
         let slice = store.reg(d, i + 1);
-        ids.push(identity_arrow(alloc, store, kept, dim - 1, slice)?)?;
+        ids.push(identity_arrow(alloc, store, dim - 1, slice)?)?;
     }
     Ok(ids)
 }
@@ -137,26 +111,20 @@ fn regular_identities(
 fn singular_identities(
     alloc: Global,
     store: &mut Store,
-    kept: &mut Kept,
     dim: usize,
     d: DiagramId,
 ) -> Result<SmallVec<ArrowId, 4>, AllocError>
     requires of_store { IsDiagramOf store.old d }
     requires dim { dim ≡ dimension_of (diagram_at store.old d) }
     requires above { 0 < dim }
-    requires kept { AreRight store.old kept.old }
     requires store { IsStore store.old }
-    ensures gathers { IfOk result (λ ids. Gathers store.new.arrows ids.items
-        (length (sings (diagram_at store.old d)))
-        (λ i. identity_tree (sing_at (diagram_at store.old d) i))) }
-    ensures kept { AreRight store.new kept.new }
-    ensures grows { Grows store.old store.new }
-    ensures store { IsStore store.new }
+    ensures { MakesArrows store.old store.new (length (sings (diagram_at store.old d)))
+        (λ i. identity_tree (sing_at (diagram_at store.old d) i)) result }
 {
     let mut ids = SmallVec::new(alloc);
     for i in 0..store.length(d) {
         let slice = store.sing(d, i);
-        ids.push(identity_arrow(alloc, store, kept, dim - 1, slice)?)?;
+        ids.push(identity_arrow(alloc, store, dim - 1, slice)?)?;
     }
     Ok(ids)
 }

@@ -1,22 +1,20 @@
 use crate::map::Map;
 use hashcons::{ArrowId, DiagramId};
 use std::alloc::{AllocError, Global};
-use std::collections::{HashMap, HashSet};
+use std::collections::HashSet;
 
-/// What was found out about the ids of a store, so that it is not worked out twice: identities,
-/// composites, valid diagrams and valid maps. It stays right while the store grows.
+/// What was found out about the ids of a store, so that it is not worked out twice: valid diagrams
+/// and valid maps. It stays right while the store grows.
 #[derive(Drop)]
 pub struct Kept {
-    identities: HashMap<DiagramId, ArrowId>,
-    composites: HashMap<(ArrowId, ArrowId), ArrowId>,
     valid_diagrams: HashSet<DiagramId>,
     valid_maps: HashSet<(DiagramId, DiagramId, ArrowId)>,
 }
 
 impl Kept {
-    ghost use Rattle.std.specs.Prelude.{IfSome, OnOk, IsTrue, ◌≡◌};
+    ghost use Rattle.std.specs.Prelude.{IsTrue, ◌≡◌};
     ghost use Rattle.hashcons.specs.Contents.{Contents};
-    ghost use Rattle.zigzag_maps.specs.Found.{IsIdentityOf, IsCompositeOf, IsValidDiagram, IsValidMap};
+    ghost use Rattle.zigzag_maps.specs.Found.{IsValidDiagram, IsValidMap};
     ghost use Rattle.zigzag_maps.specs.Keeps.{AreRight};
 
     /// Nothing yet. It takes no memory.
@@ -24,48 +22,9 @@ impl Kept {
         ensures { (c : Contents) → AreRight c result }
     {
         Kept {
-            identities: HashMap::new(alloc),
-            composites: HashMap::new(alloc),
             valid_diagrams: HashSet::new(alloc),
             valid_maps: HashSet::new(alloc),
         }
-    }
-
-    /// The composite of `g` after `f`, where it is kept.
-    pub(crate) fn composite(&self, g: ArrowId, f: ArrowId) -> Option<ArrowId>
-        ensures { (c : Contents) → AreRight c self.now → IfSome result (IsCompositeOf c g f) }
-    {
-        self.composites.get(&(g, f)).copied()
-    }
-
-    pub(crate) fn keep_composite(
-        &mut self,
-        g: ArrowId,
-        f: ArrowId,
-        composite: ArrowId,
-    ) -> Result<(), AllocError>
-        ensures { (c : Contents) → AreRight c self.old → IsCompositeOf c g f composite → AreRight c self.new }
-    {
-        self.composites.insert((g, f), composite)?;
-        Ok(())
-    }
-
-    /// The identity arrow of `d`, where it is kept.
-    pub(crate) fn identity(&self, d: DiagramId) -> Option<ArrowId>
-        ensures { (c : Contents) → AreRight c self.now → IfSome result (IsIdentityOf c d) }
-    {
-        self.identities.get(&d).copied()
-    }
-
-    pub(crate) fn keep_identity(
-        &mut self,
-        d: DiagramId,
-        identity: ArrowId,
-    ) -> Result<(), AllocError>
-        ensures { (c : Contents) → AreRight c self.old → IsIdentityOf c d identity → AreRight c self.new }
-    {
-        self.identities.insert(d, identity)?;
-        Ok(())
     }
 
     /// Whether `d` is kept as a valid diagram.

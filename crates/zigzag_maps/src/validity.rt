@@ -1,13 +1,14 @@
-ghost use Rattle.std.specs.Prelude.{◌≡◌, ◌↔◌, ◌-◌, ◌<◌, ◌≤◌, IfOk, length, suc};
-ghost use Rattle.diagram_terms.specs.Places.{at_each, first_failure};
+ghost use Rattle.std.specs.Prelude.{◌≡◌, ◌↔◌, ◌-◌, ◌<◌, IfOk, length, ⊤};
+ghost use Rattle.diagram_terms.specs.Places.{first_failure};
 ghost use Rattle.diagram_terms.specs.Tree.{sings};
 ghost use Rattle.hashcons.specs.Contents.{IsDiagramOf, Grows, IsStore, diagram_at};
 ghost use Rattle.zigzag_maps.specs.Found.{IsValidDiagram};
 ghost use Rattle.zigzag_maps.specs.Keeps.{AreRight};
-ghost use Rattle.zigzag_maps.specs.Validity.{IsDiagramAt, HasValidParts, tests_in, reg_slice_tests, sing_slice_tests, fwd_tests, bwd_tests, leg_tests};
+ghost use Rattle.zigzag_maps.specs.Validity.{IsDiagramAt, HasValidParts, tests_in, legs_of};
 ghost use Rattle.zigzag_maps.specs.Visits.{diagram_fault as diagram_fault_of, fault_of};
 
-use crate::faults::{found_in, map_fault, outcome_of};
+use crate::faults::{map_fault, outcome_of};
+use crate::growing::{GrowingWalk, grown_in};
 use crate::kept::Kept;
 use crate::map::Map;
 use crate::outcome::SquareTest;
@@ -21,7 +22,6 @@ pub fn valid(alloc: Global, store: &mut Store, d: DiagramId) -> Result<SquareTes
     ensures exact { IfOk result (λ test. fault_of test ≡ diagram_fault_of (diagram_at store.old d)) }
     ensures yes { IfOk result (λ test. (test ≡ SquareTest.Valid) ↔ IsValidDiagram store.new d) }
     ensures grows { Grows store.old store.new }
-    ensures store { IsStore store.new }
 {
     let mut kept = Kept::new(alloc);
     valid_keeping(alloc, store, &mut kept, d)
@@ -41,188 +41,52 @@ pub fn valid_keeping(
     ensures yes { IfOk result (λ test. (test ≡ SquareTest.Valid) ↔ IsValidDiagram store.new d) }
     ensures kept { AreRight store.new kept.new }
     ensures grows { Grows store.old store.new }
-    ensures store { IsStore store.new }
 {
     let dim = store.dim(AnyId::Diagram(d));
-    let found = diagram_fault(alloc, store, kept, dim, d)?;
+    let found = grown_in(alloc, store, kept, dim, d)?;
     Ok(outcome_of(found))
 }
 
-/// Where a diagram of dimension `dim` is not valid first, worked out once for each diagram.
-#[cycle(diagrams)]
-#[tactic(auto, using(crate::proofs::ValiditySteps::diagrams))]
-fn diagram_fault(
-    alloc: Global,
-    store: &mut Store,
-    kept: &mut Kept,
-    dim: usize,
-    d: DiagramId,
-) -> Result<Option<Place>, AllocError>
-    requires diagram { IsDiagramAt store.old dim d }
-    requires kept { AreRight store.old kept.old }
-    requires store { IsStore store.old }
-    ensures exact { IfOk result (λ found. found ≡ first_failure (tests_in (diagram_at store.old d))) }
-    ensures kept { AreRight store.new kept.new }
-    ensures grows { Grows store.old store.new }
-    ensures store { IsStore store.new }
-{
-    if kept.has_valid(d) {
-        return Ok(None);
-    }
-    if let Some(place) = parts_fault(alloc, store, kept, dim, d)? {
-        return Ok(Some(place));
-    }
-    kept.keep_valid(d)?;
-    Ok(None)
-}
+/// The valid diagrams and maps that were found, as a walk over the tests of a diagram.
+impl GrowingWalk for Kept {
+    ghost right = { AreRight };
 
-/// The first fault in the regular slices, then in the singular ones, then in the legs.
-#[cycle(diagrams)]
-#[tactic(auto, using(crate::proofs::ValiditySteps::diagrams))]
-fn parts_fault(
-    alloc: Global,
-    store: &mut Store,
-    kept: &mut Kept,
-    dim: usize,
-    d: DiagramId,
-) -> Result<Option<Place>, AllocError>
-    requires diagram { IsDiagramAt store.old dim d }
-    requires kept { AreRight store.old kept.old }
-    requires store { IsStore store.old }
-    ensures exact { IfOk result (λ found. found ≡ first_failure (tests_in (diagram_at store.old d))) }
-    ensures kept { AreRight store.new kept.new }
-    ensures grows { Grows store.old store.new }
-    ensures store { IsStore store.new }
-{
-    if dim == 0 {
-        return Ok(None);
-    }
-    if let Some(place) = regs_fault(alloc, store, kept, dim, d)? {
-        return Ok(Some(place));
-    }
-    if let Some(place) = sings_fault(alloc, store, kept, dim, d)? {
-        return Ok(Some(place));
-    }
-    legs_fault(alloc, store, kept, dim, d)
-}
+    ghost tests = { tests_in };
 
-/// The first fault in the regular slices.
-#[cycle(diagrams)]
-#[tactic(auto, using(crate::proofs::ValiditySteps::diagrams))]
-fn regs_fault(
-    alloc: Global,
-    store: &mut Store,
-    kept: &mut Kept,
-    dim: usize,
-    d: DiagramId,
-) -> Result<Option<Place>, AllocError>
-    requires diagram { IsDiagramAt store.old dim d }
-    requires above { 0 < dim }
-    requires kept { AreRight store.old kept.old }
-    requires store { IsStore store.old }
-    ensures exact { IfOk result (λ found. found ≡ first_failure
-        (at_each (suc (length (sings (diagram_at store.old d)))) (reg_slice_tests (diagram_at store.old d)))) }
-    ensures kept { AreRight store.new kept.new }
-    ensures grows { Grows store.old store.new }
-    ensures store { IsStore store.new }
-{
-    let last = store.length(d);
-    for j in 0..last {
-        if let Some(place) = reg_fault(alloc, store, kept, dim, d, j)? {
-            return Ok(Some(place));
+    ghost legs = { legs_of };
+
+    ghost follows = { λ _ _. ⊤ };
+
+    ghost reflexive = { λ _. tt };
+
+    ghost transitive = { λ _ _ _ _ _. tt };
+
+    fn has_passed(&self, d: DiagramId) -> bool {
+        self.has_valid(d)
+    }
+
+    fn keep_passed(&mut self, store: &Store, dim: usize, d: DiagramId) -> Result<(), AllocError> {
+        self.keep_valid(d)
+    }
+
+    #[tactic(auto, using(crate::proofs::ValiditySteps::diagrams))]
+    fn leg(
+        &mut self,
+        alloc: Global,
+        store: &mut Store,
+        dim: usize,
+        d: DiagramId,
+        step: Step,
+    ) -> Result<Option<Place>, AllocError> {
+        match step {
+            Step::F(k) => fwd_fault(alloc, store, self, dim, d, k),
+            Step::B(k) => bwd_fault(alloc, store, self, dim, d, k),
+            _ => unreachable!(),
         }
     }
-    reg_fault(alloc, store, kept, dim, d, last)
 }
 
-/// The first fault in the regular slice at `j`.
-#[cycle(diagrams)]
-#[tactic(auto, using(crate::proofs::ValiditySteps::diagrams))]
-fn reg_fault(
-    alloc: Global,
-    store: &mut Store,
-    kept: &mut Kept,
-    dim: usize,
-    d: DiagramId,
-    j: usize,
-) -> Result<Option<Place>, AllocError>
-    requires diagram { IsDiagramAt store.old dim d }
-    requires above { 0 < dim }
-    requires within { j ≤ length (sings (diagram_at store.old d)) }
-    requires kept { AreRight store.old kept.old }
-    requires store { IsStore store.old }
-    ensures exact { IfOk result (λ found. found ≡ first_failure (reg_slice_tests (diagram_at store.old d) j)) }
-    ensures kept { AreRight store.new kept.new }
-    ensures grows { Grows store.old store.new }
-    ensures store { IsStore store.new }
-{
-    let slice = store.reg(d, j);
-    let found = diagram_fault(alloc, store, kept, dim - 1, slice)?;
-    found_in(alloc, Step::R(j), found)
-}
-
-/// The first fault in the singular slices.
-#[cycle(diagrams)]
-#[tactic(auto, using(crate::proofs::ValiditySteps::diagrams))]
-fn sings_fault(
-    alloc: Global,
-    store: &mut Store,
-    kept: &mut Kept,
-    dim: usize,
-    d: DiagramId,
-) -> Result<Option<Place>, AllocError>
-    requires diagram { IsDiagramAt store.old dim d }
-    requires above { 0 < dim }
-    requires kept { AreRight store.old kept.old }
-    requires store { IsStore store.old }
-    ensures exact { IfOk result (λ found. found ≡ first_failure
-        (at_each (length (sings (diagram_at store.old d))) (sing_slice_tests (diagram_at store.old d)))) }
-    ensures kept { AreRight store.new kept.new }
-    ensures grows { Grows store.old store.new }
-    ensures store { IsStore store.new }
-{
-    for i in 0..store.length(d) {
-        let slice = store.sing(d, i);
-        let found = diagram_fault(alloc, store, kept, dim - 1, slice)?;
-        if let Some(place) = found_in(alloc, Step::S(i), found)? {
-            return Ok(Some(place));
-        }
-    }
-    Ok(None)
-}
-
-/// The first fault in the legs of a diagram whose slices are valid.
-#[tactic(auto, using(crate::proofs::ValiditySteps::diagrams))]
-fn legs_fault(
-    alloc: Global,
-    store: &mut Store,
-    kept: &mut Kept,
-    dim: usize,
-    d: DiagramId,
-) -> Result<Option<Place>, AllocError>
-    requires diagram { IsDiagramAt store.old dim d }
-    requires above { 0 < dim }
-    requires parts { HasValidParts (dim - 1) (diagram_at store.old d) }
-    requires kept { AreRight store.old kept.old }
-    requires store { IsStore store.old }
-    ensures exact { IfOk result (λ found. found ≡ first_failure
-        (at_each (length (sings (diagram_at store.old d))) (leg_tests (diagram_at store.old d)))) }
-    ensures kept { AreRight store.new kept.new }
-    ensures grows { Grows store.old store.new }
-    ensures store { IsStore store.new }
-{
-    for k in 0..store.length(d) {
-        if let Some(place) = fwd_fault(alloc, store, kept, dim, d, k)? {
-            return Ok(Some(place));
-        }
-        if let Some(place) = bwd_fault(alloc, store, kept, dim, d, k, k + 1)? {
-            return Ok(Some(place));
-        }
-    }
-    Ok(None)
-}
-
-/// The first fault in the leg forward at `k`.
+/// The first fault in the leg forward at `k`, seen from the leg.
 #[tactic(auto, using(crate::proofs::ValiditySteps::diagrams))]
 fn fwd_fault(
     alloc: Global,
@@ -238,21 +102,19 @@ fn fwd_fault(
     requires within { k < length (sings (diagram_at store.old d)) }
     requires kept { AreRight store.old kept.old }
     requires store { IsStore store.old }
-    ensures exact { IfOk result (λ found. found ≡ first_failure (fwd_tests (diagram_at store.old d) k)) }
+    ensures exact { IfOk result (λ found. found ≡ first_failure (legs_of (diagram_at store.old d) (Step.F k))) }
     ensures kept { AreRight store.new kept.new }
     ensures grows { Grows store.old store.new }
-    ensures store { IsStore store.new }
 {
     let leg = Map {
         source: store.reg(d, k),
         target: store.sing(d, k),
         arrow: store.fwd(d, k),
     };
-    let found = map_fault(alloc, store, kept, dim - 1, &leg)?;
-    found_in(alloc, Step::F(k), found)
+    map_fault(alloc, store, kept, dim - 1, &leg)
 }
 
-/// The first fault in the leg backward at `k`, from the regular slice at `behind`.
+/// The first fault in the leg backward at `k`, seen from the leg.
 #[tactic(auto, using(crate::proofs::ValiditySteps::diagrams))]
 fn bwd_fault(
     alloc: Global,
@@ -261,25 +123,23 @@ fn bwd_fault(
     dim: usize,
     d: DiagramId,
     k: usize,
-    behind: usize,
 ) -> Result<Option<Place>, AllocError>
     requires diagram { IsDiagramAt store.old dim d }
     requires above { 0 < dim }
     requires parts { HasValidParts (dim - 1) (diagram_at store.old d) }
     requires within { k < length (sings (diagram_at store.old d)) }
-    requires behind { behind ≡ suc k }
     requires kept { AreRight store.old kept.old }
     requires store { IsStore store.old }
-    ensures exact { IfOk result (λ found. found ≡ first_failure (bwd_tests (diagram_at store.old d) k)) }
+    ensures exact { IfOk result (λ found. found ≡ first_failure (legs_of (diagram_at store.old d) (Step.B k))) }
     ensures kept { AreRight store.new kept.new }
     ensures grows { Grows store.old store.new }
-    ensures store { IsStore store.new }
 {
+    // a height is below a length, so the next number fits
+    let _ = store.length(d);
     let leg = Map {
-        source: store.reg(d, behind),
+        source: store.reg(d, k + 1),
         target: store.sing(d, k),
         arrow: store.bwd(d, k),
     };
-    let found = map_fault(alloc, store, kept, dim - 1, &leg)?;
-    found_in(alloc, Step::B(k), found)
+    map_fault(alloc, store, kept, dim - 1, &leg)
 }

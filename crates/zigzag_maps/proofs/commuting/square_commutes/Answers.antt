@@ -12,8 +12,6 @@ loop-i-init c =
     let made = c.in_ok-edge.ensures in
     record {
       grows = made.grows;
-      store = made.store;
-      kept = made.kept;
       slicewise = slicewise-grows _ _ _ _ made.grows c.requires.slicewise;
       of_store = made.of_store;
       edge = made.tree ∙ sym (edge_at-first _ _ _ _ _);
@@ -32,7 +30,7 @@ returns-then-ne-clause-exact c =
     let m = c.args.f.now in
     let before = made.tree ∙ map_trees (λ s t f. edge_before s f c.loop-i.i) old c.loop-i.store c.args.dim m inv.grows c.requires.slicewise.map in
     let edge = made.grows.arrow_trees c.loop-i.edge inv.of_store ∙ inv.edge in
-    let differ = other c.edge_before.new.store made.store c.in_ok-before.before c.loop-i.edge made.of_store (made.grows.arrows _ inv.of_store) c.ne.result c.ne.ensures c.if-ne.true in
+    let differ = other c.edge_before.new.store (made.grows.store (inv.grows.store c.requires.store)) c.in_ok-before.before c.loop-i.edge made.of_store (made.grows.arrows _ inv.of_store) c.ne.result c.ne.ensures c.if-ne.true in
     stops old c.args.dim m c.args.fibre.over c.args.fibre.from c.args.fibre.to c.requires.slicewise c.requires.over c.requires.from c.requires.to
     c.loop-i.i (omega arith) (omega arith) (λ e. differ (before ∙ sym e ∙ sym edge))
 
@@ -54,12 +52,10 @@ loop-i-preserved c =
     let grows = Grows-trans _ _ _ inv.grows first.grows in
     let before = first.tree ∙ map_trees (λ s t f. edge_before s f c.loop-i.i) old c.loop-i.store c.args.dim m inv.grows c.requires.slicewise.map in
     let edge = first.grows.arrow_trees c.loop-i.edge inv.of_store ∙ inv.edge in
-    let same = not_other c.edge_before.new.store first.store c.in_ok-before.before c.loop-i.edge first.of_store (first.grows.arrows _ inv.of_store) c.ne.result c.ne.ensures c.if-ne.false in
+    let same = not_other c.edge_before.new.store (grows.store c.requires.store) c.in_ok-before.before c.loop-i.edge first.of_store (first.grows.arrows _ inv.of_store) c.ne.result c.ne.ensures c.if-ne.false in
     let agrees = sym edge ∙ sym same ∙ before in
     record {
       grows = Grows-trans _ _ _ grows made.grows;
-      store = made.store;
-      kept = made.kept;
       slicewise = slicewise-grows _ _ _ _ (Grows-trans _ _ _ grows made.grows) c.requires.slicewise;
       of_store = made.of_store;
       edge = made.tree ∙ map_trees (λ s t f. edge_behind s f c.loop-i.i) old c.edge_before.new.store c.args.dim m grows c.requires.slicewise.map ∙ sym (edge_at-next _ _ _ _ _ c.loop-i.i (omega arith));
@@ -75,7 +71,7 @@ returns-clause-exact c =
     let m = c.args.f.now in
     let last = made.tree ∙ map_trees (λ s t f. last_edge t f c.args.fibre.over) old c.loop-i.store c.args.dim m inv.grows c.requires.slicewise.map in
     let edge = made.grows.arrow_trees c.loop-i.edge inv.of_store ∙ inv.edge in
-    let same = equal_ids c.last_edge.new.store made.store c.loop-i.edge c.in_ok-last.last (made.grows.arrows _ inv.of_store) made.of_store c.eq.result c.eq.ensures in
+    let same = equal_ids c.last_edge.new.store (made.grows.store (inv.grows.store c.requires.store)) c.loop-i.edge c.in_ok-last.last (made.grows.arrows _ inv.of_store) made.of_store c.eq.result c.eq.ensures in
     let rises = fibre_rises _ c.args.fibre.over c.args.fibre.from c.args.fibre.to c.requires.from c.requires.to in
     let end : c.loop-i.i ≡ c.args.fibre.to = omega arith in
     let there = ap (edge_at (diagram_at old m.source) (diagram_at old m.target) (arrow_at old m.arrow) c.args.fibre.over c.args.fibre.from) end in

@@ -1,6 +1,5 @@
 use Rattle.std.proofs.Common.{◌≡◌, ℕ, ◌<◌, ◌≤◌}
-use Rattle.hashcons.specs.Contents.{Grows, IsStore, IsArrowOf, diagram_at, arrow_at}
-use Rattle.zigzag_maps.specs.Keeps.{AreRight}
+use Rattle.hashcons.specs.Contents.{Grows, IsArrowOf, diagram_at, arrow_at}
 use Rattle.zigzag_maps.specs.Visits.{IsValidSlicewise, edge_before}
 use Rattle.zigzag_maps.proofs.EdgeLemmas.{edge_at}
 use Rattle.zigzag_maps.proofs.commuting.square_commutes.Given as goal
@@ -8,8 +7,6 @@ use Rattle.zigzag_maps.proofs.commuting.square_commutes.Given as goal
 abbrev pub invariant-loop-i : goal.invariant-loop-i
 invariant-loop-i l = record {
   grows : Grows l.fn.store l.store;
-  store : IsStore l.store;
-  kept : AreRight l.store l.kept;
   slicewise : IsValidSlicewise l.store l.dim l.f;
   of_store : IsArrowOf l.store l.edge;
   edge : arrow_at l.store l.edge

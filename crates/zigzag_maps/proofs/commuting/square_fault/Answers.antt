@@ -21,8 +21,6 @@ loop-k-init c =
     let has = has_edges c.args.store.now c.args.dim c.args.f.now c.requires.slicewise in
     record {
       grows = Grows-refl _;
-      store = c.requires.store;
-      kept = c.requires.kept;
       slicewise = c.requires.slicewise;
       from = zero_dual _ (c.requires.store.arrows _ c.requires.slicewise.map.arrow) (omega (arith, has.dim));
       rest = visit_start (square_tests (diagram_at old m.source) (diagram_at old m.target) (arrow_at old m.arrow)) (length (sings (diagram_at old m.target)));
@@ -64,8 +62,6 @@ loop-k-preserved c =
     let n = length (sings (diagram_at old m.target)) in
     record {
       grows = Grows-trans _ _ _ inv.grows made.grows;
-      store = made.store;
-      kept = made.kept;
       slicewise = slicewise-grows _ _ _ _ made.grows inv.slicewise;
       from = c.dual_from-to.ensures ∙ ap (λ u. dual (heights u) (k + 1)) (inv.grows.arrow_trees m.arrow c.requires.slicewise.map.arrow);
       rest = sym (visit_passes tests n k (omega arith) (ap (λ b. first_failure (here (at_end.Square k) b)) (holds ∙ c.if-not-branch.false))) ∙ inv.rest;

@@ -2,10 +2,9 @@ use Rattle.std.proofs.Common.{◌≡◌, ◌+◌, ◌*◌, get_or}
 use Rattle.diagram_terms.specs.Dual.{dual}
 use Rattle.diagram_terms.specs.Shape.{reg_at, sing_at}
 use Rattle.diagram_terms.specs.Tree.{heights}
-use Rattle.hashcons.specs.Contents.{Grows, IsStore, arrow_at}
+use Rattle.hashcons.specs.Contents.{Grows, arrow_at}
 use Rattle.hashcons.specs.Gathers.{Gathers}
-use Rattle.zigzag_maps.specs.Keeps.{AreRight}
-use Rattle.zigzag_maps.specs.Trees.{composite_tree}
+use Rattle.diagram_terms.specs.Operations.{composite_tree}
 use Rattle.zigzag_maps.proofs.composites.+composites.Given as goal
 
 abbrev pub decreases-composite : goal.decreases-composite
@@ -23,8 +22,6 @@ decreases-singular_composites l = 3 * l.dim
 abbrev pub invariant-regular_composites-loop-k : goal.invariant-regular_composites-loop-k
 invariant-regular_composites-loop-k l = record {
   grows : Grows l.fn.store l.store;
-  store : IsStore l.store;
-  kept : AreRight l.store l.kept;
   below : l.below ≡ dual (heights (arrow_at l.fn.store l.g)) l.k;
   gathers : Gathers l.store.arrows l.ids.items (l.k + 1)
       (λ k. composite_tree (reg_at (arrow_at l.fn.store l.g) k) (reg_at (arrow_at l.fn.store l.f) (dual (heights (arrow_at l.fn.store l.g)) k)));
@@ -33,8 +30,6 @@ invariant-regular_composites-loop-k l = record {
 abbrev pub invariant-singular_composites-loop-i : goal.invariant-singular_composites-loop-i
 invariant-singular_composites-loop-i l = record {
   grows : Grows l.fn.store l.store;
-  store : IsStore l.store;
-  kept : AreRight l.store l.kept;
   gathers : Gathers l.store.arrows l.ids.items l.i
       (λ i. composite_tree (sing_at (arrow_at l.fn.store l.g) (get_or (heights (arrow_at l.fn.store l.f)) i 0)) (sing_at (arrow_at l.fn.store l.f) i));
 }

@@ -1,6 +1,6 @@
 use Rattle.std.proofs.Common.{sym, subst}
 use Rattle.hashcons.specs.Contents.{diagram_at, arrow_at}
-use Rattle.zigzag_maps.specs.Trees.{IsArrowBetween}
+use Rattle.diagram_terms.specs.ValidTrees.{IsArrowBetween}
 use Rattle.zigzag_maps.proofs.CompositeLemmas.{composable_between}
 use Rattle.zigzag_maps.proofs.ValidMaps.{composite_is_valid}
 use Rattle.zigzag_maps.proofs.composites.compose.Goals as goal
@@ -14,6 +14,6 @@ composite-requires-clause-composable c =
 
 pub returns-clause-valid : goal.returns-clause-valid
 returns-clause-valid c =
-    let made = c.in_ok-arrow.ensures in
+    let made = c.in_ok-arrow.ensures.made in
     composite_is_valid c.args.store.now c.composite.new.store made.grows c.args.g c.args.f c.in_ok-arrow.arrow
     c.requires.outer c.requires.inner c.requires.meet made.of_store made.tree

@@ -98,7 +98,6 @@ regular_fault-loop-j-init t c =
     let lengths = map_lengths old c.args.dim m c.requires.above c.requires.map in
     record {
       grows = Grows-refl _;
-      store = c.requires.store;
       kept = c.requires.kept;
       map = c.requires.map;
       below = zero_dual _ (c.requires.store.arrows _ c.requires.map.arrow) (omega (arith, lengths.dim));
@@ -138,7 +137,6 @@ regular_fault-loop-j-preserved t c =
     let same = map_trees (λ s t f. first_failure (reg_tests s t f j)) old c.loop-j.store c.args.dim m inv.grows c.requires.map in
     record {
       grows = grows;
-      store = made.store;
       kept = made.kept;
       map = map_at-grows _ _ _ _ grows c.requires.map;
       below = c.dual_from-below.ensures ∙ ap (λ u. dual (heights u) (j + 1)) (grows.arrow_trees m.arrow c.requires.map.arrow);
@@ -226,7 +224,7 @@ singular_fault-map_fault-requires t c =
       (
         sing_slice c.loop-i.store c.args.f.now (record { source = c.sing.result; target = c.sing-in-loop-i.result; arrow = c.arrow_sing.result }) c.sing.ensures.of_store c.sing-in-loop-i.ensures.of_store c.arrow_sing.ensures.of_store
             c.args.dim c.loop-i.i c.height.result c.requires.above inv.map fits (omega arith) c.height.ensures c.sing.ensures.tree c.sing-in-loop-i.ensures.tree c.arrow_sing.ensures.tree,
-        (inv.kept, inv.store),
+        (inv.kept, inv.grows.store c.requires.store),
       ),
     )
 
@@ -256,7 +254,6 @@ singular_fault-loop-i-preserved t c =
     let same = map_trees (λ s t f. first_failure (sing_tests s t f i)) old c.loop-i.store c.args.dim m inv.grows c.requires.map in
     record {
       grows = grows;
-      store = made.store;
       kept = made.kept;
       map = map_at-grows _ _ _ _ grows c.requires.map;
       rest = sym (visit_passes (sing_tests (diagram_at old m.source) (diagram_at old m.target) (arrow_at old m.arrow)) (length (sings (diagram_at old m.source))) i (omega arith)

@@ -1,9 +1,8 @@
 use Rattle.std.proofs.Common.{◌+◌, ◌*◌}
 use Rattle.diagram_terms.specs.Shape.{reg_at, sing_at}
-use Rattle.hashcons.specs.Contents.{Grows, IsStore, diagram_at}
+use Rattle.hashcons.specs.Contents.{Grows, diagram_at}
 use Rattle.hashcons.specs.Gathers.{Gathers}
-use Rattle.zigzag_maps.specs.Keeps.{AreRight}
-use Rattle.zigzag_maps.specs.Trees.{identity_tree}
+use Rattle.diagram_terms.specs.Operations.{identity_tree}
 use Rattle.zigzag_maps.proofs.identities.+identities.Given as goal
 
 abbrev pub decreases-identity_arrow : goal.decreases-identity_arrow
@@ -21,15 +20,11 @@ decreases-singular_identities l = 3 * l.dim
 abbrev pub invariant-regular_identities-loop-i : goal.invariant-regular_identities-loop-i
 invariant-regular_identities-loop-i l = record {
   grows : Grows l.fn.store l.store;
-  store : IsStore l.store;
-  kept : AreRight l.store l.kept;
   gathers : Gathers l.store.arrows l.ids.items (l.i + 1) (λ j. identity_tree (reg_at (diagram_at l.fn.store l.d) j));
 }
 
 abbrev pub invariant-singular_identities-loop-i : goal.invariant-singular_identities-loop-i
 invariant-singular_identities-loop-i l = record {
   grows : Grows l.fn.store l.store;
-  store : IsStore l.store;
-  kept : AreRight l.store l.kept;
   gathers : Gathers l.store.arrows l.ids.items l.i (λ i. identity_tree (sing_at (diagram_at l.fn.store l.d) i));
 }

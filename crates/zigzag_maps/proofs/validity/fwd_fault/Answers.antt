@@ -1,7 +1,9 @@
 use Rattle.std.proofs.Common.{◌≡◌, IfOk, Option, subst, arith}
 use Rattle.diagram_terms.specs.declared.place.Place.{Place}
+use Rattle.diagram_terms.specs.Places.{first_failure}
+use Rattle.zigzag_maps.specs.Visits.{tests_between}
 use Rattle.zigzag_maps.proofs.ValidityLemmas.{legs_len}
-use Rattle.zigzag_maps.proofs.ValiditySteps.{fwd_leg, fwd_found}
+use Rattle.zigzag_maps.proofs.ValiditySteps.{fwd_leg}
 use Rattle.zigzag_maps.proofs.validity.fwd_fault.Goals as goal
 
 pub fwd-requires-clause-within : goal.fwd-requires-clause-within
@@ -16,6 +18,5 @@ map_fault-requires-clause-map c =
 
 pub returns-clause-exact : goal.returns-clause-exact
 returns-clause-exact c =
-    let is = fwd_found c.args.store.now c.args.d (record { source = c.reg.result; target = c.sing.result; arrow = c.fwd.result }) c.reg.ensures.of_store c.sing.ensures.of_store c.fwd.ensures.of_store
-    c.in_ok-found.found c.in_ok-found.ensures.exact c.args.k c.reg.ensures.tree c.sing.ensures.tree c.fwd.ensures.tree in
-    subst (λ (x : Option Place). IfOk c.found_in.result (λ place. place ≡ x)) is c.found_in.ensures
+    subst (λ (x : Option Place). IfOk c.map_fault.result (λ found. found ≡ x))
+    (λ i. first_failure (tests_between (c.reg.ensures.tree i) (c.sing.ensures.tree i) (c.fwd.ensures.tree i))) c.map_fault.ensures.exact

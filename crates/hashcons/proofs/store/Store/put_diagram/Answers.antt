@@ -7,9 +7,9 @@ use Rattle.hashcons.proofs.PutLemmas.{PutsDiagram, puts_diagram}
 use Rattle.hashcons.proofs.store.Store.put_diagram.Goals as goal
 
 puts : (c : goal.In_ok-index) → PutsDiagram c.self.inside.arrows.keys c.self.inside.diagrams.keys
-    c.insert_full.new.self.keys c.args.node
+    c.insert_full.new.self.keys (record { identities = c.self.inside.identities.entries; composites = c.self.inside.composites.entries }) c.args.node
 puts c =
-    puts_diagram c.self.inside.arrows.keys c.self.inside.diagrams.keys c.args.node c.self.invariant
+    puts_diagram c.self.inside.arrows.keys c.self.inside.diagrams.keys (record { identities = c.self.inside.identities.entries; composites = c.self.inside.composites.entries }) c.args.node c.self.invariant
     (subst (λ s. HasChildrenOf s c.args.node) (sym c.self.view_is) c.requires.children)
     (subst (λ s. IsDiagramTree (described_diagram s c.args.node)) (sym c.self.view_is) c.requires.shape)
     c.insert_full.new.self.keys c.in_ok-index.ensures.keys
@@ -17,23 +17,12 @@ puts c =
 pub invariant_of-self-2 : goal.invariant_of-self-2
 invariant_of-self-2 c = (puts c).tables
 
-pub returns-clause-grows : goal.returns-clause-grows
-returns-clause-grows c = rw (← c.self.view_is) (puts c).grows
-
-pub returns-clause-of_store : goal.returns-clause-of_store
-returns-clause-of_store c =
+pub returns-clause-made : goal.returns-clause-made
+returns-clause-made c =
     let stored : (k : DiagramNode) × (slice_get c.insert_full.new.self.keys c.in_ok-index.index ≡ Some k) × (diagram_eq
     c.args.node k ≡ true) = c.in_ok-index.ensures.stored in
-    ((puts c).held c.in_ok-index.index stored.0 stored.1 stored.2).of_list
-
-pub returns-clause-tree : goal.returns-clause-tree
-returns-clause-tree c =
-    let stored : (k : DiagramNode) × (slice_get c.insert_full.new.self.keys c.in_ok-index.index ≡ Some k) × (diagram_eq
-    c.args.node k ≡ true) = c.in_ok-index.ensures.stored in
-    rw (← c.self.view_is) ((puts c).held c.in_ok-index.index stored.0 stored.1 stored.2).tree
+    let held = (puts c).held c.in_ok-index.index stored.0 stored.1 stored.2 in
+    rw (← c.self.view_is) (record { grows = (puts c).grows; of_store = held.of_list; tree = held.tree })
 
 pub returns-clause-adds : goal.returns-clause-adds
 returns-clause-adds c = rw (← c.self.view_is) (puts c).adds
-
-pub returns-clause-store : goal.returns-clause-store
-returns-clause-store c = (puts c).tables.store

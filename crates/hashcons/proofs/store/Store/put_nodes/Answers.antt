@@ -8,7 +8,6 @@ loop-at-preserved c =
     let put = c.in_ok-id.ensures in
     record {
       grows = Grows-trans _ _ _ inv.grows put.grows;
-      store = put.store;
       ids = rw c.in_ok-push.ensures.items (ids-more c.loop-at.self c.put_node.new.self _ _ _ _ put.grows inv.ids
           put.of_store put.tree);
     }

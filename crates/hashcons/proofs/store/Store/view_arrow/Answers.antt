@@ -15,12 +15,12 @@ index-requires c =
 
 pub returns-clause-tree : goal.returns-clause-tree
 returns-clause-tree c =
-    let reads = reads_arrow c.self.inside.arrows.keys c.self.inside.diagrams.keys c.self.invariant c.id.inside.index
+    let reads = reads_arrow c.self.inside.arrows.keys c.self.inside.diagrams.keys _ c.self.invariant c.id.inside.index
     c.index.result.now c.index.ensures in
     rw (← c.self.view_is, ← c.id.view_is) reads.tree
 
 pub returns-clause-children : goal.returns-clause-children
 returns-clause-children c =
-    let reads = reads_arrow c.self.inside.arrows.keys c.self.inside.diagrams.keys c.self.invariant c.id.inside.index
+    let reads = reads_arrow c.self.inside.arrows.keys c.self.inside.diagrams.keys _ c.self.invariant c.id.inside.index
     c.index.result.now c.index.ensures in
     rw (← c.self.view_is) reads.children

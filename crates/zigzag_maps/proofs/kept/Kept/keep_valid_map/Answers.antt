@@ -5,8 +5,6 @@ use Rattle.zigzag_maps.proofs.kept.Kept.keep_valid_map.Goals as goal
 
 pub returns : goal.returns
 returns c = λ s h is. record {
-  identities = h.identities;
-  composites = h.composites;
   diagrams = h.diagrams;
   maps = λ m. set_more same_triple exact_triple (λ p. IsValidMap s (record { source = p.0; target = p.1; arrow = p.2 }))
       c.args.self.now.valid_maps c.insert.new.self

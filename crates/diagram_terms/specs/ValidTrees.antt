@@ -1,20 +1,10 @@
--- Operations of the family, on the trees that a store holds; and valid trees.
+-- Valid trees.
 use Rattle.std.specs.Prelude.{ℕ}
 use Rattle.diagram_terms.specs.Tree.{Tree}
-use Rattle.diagram_terms.specs.Dimension.{dimension_of}
 use Rattle.diagram_terms.specs.Shape.{IsDiagram, IsArrow}
 use Rattle.diagram_terms.specs.Family.{Dia}
-use Rattle.diagram_terms.specs.Decoded.{dia, arr, arr_tree}
-use Rattle.diagram_terms.specs.Composite.{ident, comp}
+use Rattle.diagram_terms.specs.Decoded.{dia, arr}
 use Rattle.diagram_terms.specs.Valid.{Valid, ValidArrow}
-
--- the identity arrow of a diagram
-unfoldable pub identity_tree : Tree → Tree
-identity_tree t = arr_tree (dimension_of t) (ident (dimension_of t) (dia (dimension_of t) t))
-
--- the composite of g after f
-unfoldable pub composite_tree : Tree → Tree → Tree
-composite_tree g f = arr_tree (dimension_of f) (comp (dimension_of f) (arr (dimension_of f) g) (arr (dimension_of f) f))
 
 -- t is a valid diagram, of dimension d
 pub record IsValidTreeAt (d : ℕ) (t : Tree) : Type 0 where
