@@ -5,13 +5,14 @@ use Rattle.std.proofs.lemmas.Bool.{and_parts, and_from, ltb-true, lt-ltb, eqb-tr
 use Rattle.std.proofs.lemmas.List.{length-append, get_or_append_left, get_or_push}
 use Rattle.std.proofs.lemmas.Option.{cond_some, same_Some, none-some}
 use Rattle.diagram_terms.specs.declared.label.Label.{Label}
+use Rattle.diagram_terms.specs.declared.limits.TheConstants.{GREATEST_DIM}
 use Rattle.diagram_terms.specs.declared.node.Node.{Node}
 use Rattle.diagram_terms.specs.declared.node.Node.TheVariants as node
 use Rattle.diagram_terms.specs.declared.node.Sort.{Sort}
 use Rattle.diagram_terms.specs.declared.node.Sort.TheVariants as sort
 use Rattle.diagram_terms.specs.Tree.{Tree, nil, zig, zag}
 use Rattle.diagram_terms.specs.Dual.{IsMonotone}
-use Rattle.diagram_terms.specs.Nodes.{picked, node_tree, trees_from, trees_of, tree_at, greatest_dim, is_within_limits, labels_within_limits, all_below, places_below, is_of, all_of, rises_from, diagram_lengths, diagram_over, arrow_over, first_sort, sort_of, dim_of, node_sort, sorts_from, sorts_of, sort_at, IsNode, AreNodesFrom, AreNodes}
+use Rattle.diagram_terms.specs.Nodes.{picked, node_tree, trees_from, trees_of, tree_at, is_within_limits, labels_within_limits, all_below, places_below, is_of, all_of, rises_from, diagram_lengths, diagram_over, arrow_over, first_sort, sort_of, dim_of, node_sort, sorts_from, sorts_of, sort_at, IsNode, AreNodesFrom, AreNodes}
 use Rattle.diagram_terms.proofs.NodeTests.{IsWithinLimits, within_limits, is_within_limits-true, below_at, all_below-true, of_at, all_of-true, rise_from, rises_from-true, LengthsFit, lengths_fit, diagram_lengths-true}
 
 abbrev no_sort : Sort
@@ -62,7 +63,7 @@ module _ (m : ℕ) (ts us : List Sort) (same : (i : ℕ) → i < m → get_or ts
       let b = all_of_same (sort.Diagram d) ss es in
       let c = all_of_same (sort.Arrow d) fs ef in
       let f = all_of_same (sort.Arrow d) bs eb in
-      λ i. if nat_lt d greatest_dim && a i && b i && c i && f i then Some (sort.Diagram (suc d)) else None
+      λ i. if nat_lt d GREATEST_DIM && a i && b i && c i && f i then Some (sort.Diagram (suc d)) else None
   diagram_over_same rs ss fs bs (sort.Arrow d) er es ef eb = refl
 
   arrow_over_same : (rs ss : List ℕ) (s : Sort) → all_below m rs ≡ true → all_below m ss ≡ true
@@ -71,7 +72,7 @@ module _ (m : ℕ) (ts us : List Sort) (same : (i : ℕ) → i < m → get_or ts
   arrow_over_same rs ss (sort.Arrow d) er es =
       let a = all_of_same (sort.Arrow d) rs er in
       let b = all_of_same (sort.Arrow d) ss es in
-      λ i. if nat_lt d greatest_dim && a i && b i then Some (sort.Arrow (suc d)) else None
+      λ i. if nat_lt d GREATEST_DIM && a i && b i then Some (sort.Arrow (suc d)) else None
 
   -- lists of sorts that agree below m give one sort to a node with places below m
   pub sort_of_same : (n : Node) → places_below m n ≡ true → sort_of ts n ≡ sort_of us n
@@ -188,7 +189,7 @@ pub record AreChildren (sorts : List Sort) (i : ℕ) (s : Sort) (places : List �
 
 -- a diagram of dimension d + 1 at place i
 pub record IsDiagramNode (sorts : List Sort) (i d : ℕ) (rs ss fs bs : List ℕ) : Type 0 where
-  pub dim : d < greatest_dim
+  pub dim : d < GREATEST_DIM
   pub lengths : LengthsFit rs ss fs bs
   pub regs : AreChildren sorts i (sort.Diagram d) rs
   pub sings : AreChildren sorts i (sort.Diagram d) ss
@@ -197,7 +198,7 @@ pub record IsDiagramNode (sorts : List Sort) (i d : ℕ) (rs ss fs bs : List ℕ
 
 -- an arrow of dimension d + 1 at place i
 pub record IsArrowNode (sorts : List Sort) (i d : ℕ) (hs rs ss : List ℕ) : Type 0 where
-  pub dim : d < greatest_dim
+  pub dim : d < GREATEST_DIM
   pub regs_len : 0 < length rs
   pub sings_len : length ss ≡ length hs
   pub monotone : IsMonotone hs
@@ -221,7 +222,7 @@ diagram_node : (sorts : List Sort) (i : ℕ) (s : Sort) (rs ss fs bs : List ℕ)
     → NodeFits sorts i s (node.Diagram rs ss fs bs)
 diagram_node sorts i s rs ss fs bs e le (sort.Arrow d) h = absurd (none-some s h)
 diagram_node sorts i s rs ss fs bs e le (sort.Diagram d) h =
-    let u = nat_lt d greatest_dim in
+    let u = nat_lt d GREATEST_DIM in
     let ar = all_of sorts (sort.Diagram d) rs in
     let as2 = all_of sorts (sort.Diagram d) ss in
     let af = all_of sorts (sort.Arrow d) fs in
@@ -237,7 +238,7 @@ diagram_node sorts i s rs ss fs bs e le (sort.Diagram d) h =
       d,
       sym c.1,
       record {
-        dim = ltb-true d greatest_dim t.0;
+        dim = ltb-true d GREATEST_DIM t.0;
         lengths = lengths_fit rs ss fs bs le;
         regs = children sorts i (sort.Diagram d) rs r2.0 t.1;
         sings = children sorts i (sort.Diagram d) ss r2.1 r.1;
@@ -253,7 +254,7 @@ arrow_node : (sorts : List Sort) (i : ℕ) (s : Sort) (hs : List ℕ) (r : ℕ) 
     → NodeFits sorts i s (node.Arrow hs (r ∷ rs) ss)
 arrow_node sorts i s hs r rs ss e le (sort.Diagram d) h = absurd (none-some s h)
 arrow_node sorts i s hs r rs ss e le (sort.Arrow d) h =
-    let u = nat_lt d greatest_dim in
+    let u = nat_lt d GREATEST_DIM in
     let ar = all_of sorts (sort.Arrow d) (r ∷ rs) in
     let as2 = all_of sorts (sort.Arrow d) ss in
     let c = cond_some (u && ar && as2) (sort.Arrow (suc d)) s h in
@@ -265,7 +266,7 @@ arrow_node sorts i s hs r rs ss e le (sort.Arrow d) h =
       d,
       sym c.1,
       record {
-        dim = ltb-true d greatest_dim q.0;
+        dim = ltb-true d GREATEST_DIM q.0;
         regs_len = omega arith;
         sings_len = eqb-true (length ss) (length hs) w.0;
         monotone = up.monotone;
@@ -336,12 +337,12 @@ diagram_passes : (sorts : List Sort) (i d : ℕ) (rs ss fs bs : List ℕ) → Is
     → sort_of sorts (node.Diagram rs ss fs bs) ≡ Some (sort.Diagram (suc d))
 diagram_passes sorts i d [] ss fs bs h = absurd (omega (arith, h.lengths.regs_len))
 diagram_passes sorts i d (r ∷ rs) ss fs bs h =
-    let u = nat_lt d greatest_dim in
+    let u = nat_lt d GREATEST_DIM in
     let ar = all_of sorts (sort.Diagram d) (r ∷ rs) in
     let as2 = all_of sorts (sort.Diagram d) ss in
     let af = all_of sorts (sort.Arrow d) fs in
     let ab = all_of sorts (sort.Arrow d) bs in
-    let a = and_from u ar (lt-ltb d greatest_dim h.dim) (children_are sorts i (sort.Diagram d) (r ∷ rs) h.regs) in
+    let a = and_from u ar (lt-ltb d GREATEST_DIM h.dim) (children_are sorts i (sort.Diagram d) (r ∷ rs) h.regs) in
     let b = and_from (u && ar) as2 a (children_are sorts i (sort.Diagram d) ss h.sings) in
     let c = and_from (u && ar && as2) af b (children_are sorts i (sort.Arrow d) fs h.fwds) in
     let f = and_from (u && ar && as2 && af) ab c (children_are sorts i (sort.Arrow d) bs h.bwds) in
@@ -355,10 +356,10 @@ arrow_passes : (sorts : List Sort) (i d : ℕ) (hs rs ss : List ℕ) → IsArrow
     → sort_of sorts (node.Arrow hs rs ss) ≡ Some (sort.Arrow (suc d))
 arrow_passes sorts i d hs [] ss h = absurd (omega (arith, h.regs_len))
 arrow_passes sorts i d hs (r ∷ rs) ss h =
-    let u = nat_lt d greatest_dim in
+    let u = nat_lt d GREATEST_DIM in
     let ar = all_of sorts (sort.Arrow d) (r ∷ rs) in
     let as2 = all_of sorts (sort.Arrow d) ss in
-    let a = and_from u ar (lt-ltb d greatest_dim h.dim) (children_are sorts i (sort.Arrow d) (r ∷ rs) h.regs) in
+    let a = and_from u ar (lt-ltb d GREATEST_DIM h.dim) (children_are sorts i (sort.Arrow d) (r ∷ rs) h.regs) in
     let b = and_from (u && ar) as2 a (children_are sorts i (sort.Arrow d) ss h.sings) in
     let first : get_or sorts r (sort.Diagram 0) ≡ sort.Arrow d = h.regs.are 0 (omega arith) in
     let rise = rises_from-true 0 (length rs) hs (record {

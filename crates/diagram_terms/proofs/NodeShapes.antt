@@ -1,6 +1,7 @@
 -- The tree at each place of a list of nodes has the shape that its sort says, and its parts are the trees at its places.
 use Rattle.std.proofs.Common.{◌≡◌, ℕ, zero, suc, ◌<◌, ◌≤◌, List, length, get_or, sym, ap, ◌∙◌, arith, subst}
 use Rattle.std.proofs.lemmas.List.{get_or-map, length-map}
+use Rattle.diagram_terms.specs.declared.limits.TheConstants.{GREATEST_DIM}
 use Rattle.diagram_terms.specs.declared.node.Node.{Node}
 use Rattle.diagram_terms.specs.declared.node.Node.TheVariants as node
 use Rattle.diagram_terms.specs.declared.node.Sort.{Sort}
@@ -8,7 +9,7 @@ use Rattle.diagram_terms.specs.declared.node.Sort.TheVariants as sort
 use Rattle.diagram_terms.specs.Tree.{Tree, nil, point, ends, regs, sings, fwds, bwds, heights, regs-zig, sings-zig, fwds-zig, bwds-zig, heights-zag, regs-zag, sings-zag}
 use Rattle.diagram_terms.specs.Family.{no_label}
 use Rattle.diagram_terms.specs.Shape.{IsDiagram, IsArrow, reg_at, sing_at, fwd_at, bwd_at}
-use Rattle.diagram_terms.specs.Nodes.{picked, node_tree, trees_of, tree_at, greatest_dim, dim_of, sorts_of, sort_at, AreNodes}
+use Rattle.diagram_terms.specs.Nodes.{picked, node_tree, trees_of, tree_at, dim_of, sorts_of, sort_at, AreNodes}
 use Rattle.diagram_terms.proofs.NodeForms.{form_at, tree_at-node, node_fits, NodeFits, AreChildren, IsDiagramNode, IsArrowNode}
 use Rattle.diagram_terms.proofs.Shapes.{IsDiagram-point, IsArrow-ends, IsDiagram-zig, IsArrow-zag}
 
@@ -151,12 +152,12 @@ module _ (nodes : List Node) (are : AreNodes nodes) where
 
 -- ---- dimensions
 
-dim_of-fits : (sorts : List Sort) (i : ℕ) (s : Sort) (n : Node) → NodeFits sorts i s n → dim_of s ≤ greatest_dim
-dim_of-fits sorts i s (node.Label x) h = subst (λ r. dim_of r ≤ greatest_dim) (sym h.0) (omega arith)
-dim_of-fits sorts i s (node.Diagram rs ss fs bs) h = subst (λ r. dim_of r ≤ greatest_dim) (sym h.1) (omega (arith, h.2.dim))
-dim_of-fits sorts i s (node.Labels x y) h = subst (λ r. dim_of r ≤ greatest_dim) (sym h.0) (omega arith)
-dim_of-fits sorts i s (node.Arrow hs rs ss) h = subst (λ r. dim_of r ≤ greatest_dim) (sym h.1) (omega (arith, h.2.dim))
+dim_of-fits : (sorts : List Sort) (i : ℕ) (s : Sort) (n : Node) → NodeFits sorts i s n → dim_of s ≤ GREATEST_DIM
+dim_of-fits sorts i s (node.Label x) h = subst (λ r. dim_of r ≤ GREATEST_DIM) (sym h.0) (omega arith)
+dim_of-fits sorts i s (node.Diagram rs ss fs bs) h = subst (λ r. dim_of r ≤ GREATEST_DIM) (sym h.1) (omega (arith, h.2.dim))
+dim_of-fits sorts i s (node.Labels x y) h = subst (λ r. dim_of r ≤ GREATEST_DIM) (sym h.0) (omega arith)
+dim_of-fits sorts i s (node.Arrow hs rs ss) h = subst (λ r. dim_of r ≤ GREATEST_DIM) (sym h.1) (omega (arith, h.2.dim))
 
-pub dim_of-sort_at : (nodes : List Node) → AreNodes nodes → (i : ℕ) → i < length nodes → dim_of (sort_at nodes i) ≤ greatest_dim
+pub dim_of-sort_at : (nodes : List Node) → AreNodes nodes → (i : ℕ) → i < length nodes → dim_of (sort_at nodes i) ≤ GREATEST_DIM
 dim_of-sort_at nodes are i l =
     dim_of-fits (sorts_of nodes) i (sort_at nodes i) (get_or nodes i no_node) (fits_at nodes are i no_node l)

@@ -4,10 +4,11 @@ use Rattle.std.specs.Prelude.{◌&&◌, ◌==◌, nat_lt, nat_le}
 use Rattle.std.specs.List.{list_all}
 use Rattle.std.proofs.lemmas.Bool.{and_parts, and_from, ltb-true, leb-true, eqb-true, lt-ltb, le-leb, eq-eqb}
 use Rattle.diagram_terms.specs.declared.label.Label.{Label}
+use Rattle.diagram_terms.specs.declared.limits.TheConstants.{GREATEST_DIM, NUMBER_LIMIT}
 use Rattle.diagram_terms.specs.declared.node.Sort.{Sort}
 use Rattle.diagram_terms.specs.declared.node.Sort.TheVariants as sort
 use Rattle.diagram_terms.specs.Dual.{IsMonotone}
-use Rattle.diagram_terms.specs.Nodes.{is_within_limits, number_limit, greatest_dim, all_below, same_sort, is_of, all_of, rises_from, diagram_lengths}
+use Rattle.diagram_terms.specs.Nodes.{is_within_limits, all_below, same_sort, is_of, all_of, rises_from, diagram_lengths}
 
 -- ---- lists
 
@@ -27,18 +28,18 @@ all_from test (x ∷ xs) d h =
 -- ---- limits of labels
 
 pub record IsWithinLimits (x : Label) : Type 0 where
-  pub number : x.number < number_limit
-  pub dim : x.dim ≤ greatest_dim
+  pub number : x.number < NUMBER_LIMIT
+  pub dim : x.dim ≤ GREATEST_DIM
 
 pub within_limits : (x : Label) → is_within_limits x ≡ true → IsWithinLimits x
 within_limits x e =
-    let p = and_parts (nat_lt x.number number_limit) (nat_le x.dim greatest_dim) e in
-    record { number = ltb-true x.number number_limit p.0; dim = leb-true x.dim greatest_dim p.1 }
+    let p = and_parts (nat_lt x.number NUMBER_LIMIT) (nat_le x.dim GREATEST_DIM) e in
+    record { number = ltb-true x.number NUMBER_LIMIT p.0; dim = leb-true x.dim GREATEST_DIM p.1 }
 
 pub is_within_limits-true : (x : Label) → IsWithinLimits x → is_within_limits x ≡ true
 is_within_limits-true x h =
-    and_from (nat_lt x.number number_limit) (nat_le x.dim greatest_dim)
-    (lt-ltb x.number number_limit h.number) (le-leb x.dim greatest_dim h.dim)
+    and_from (nat_lt x.number NUMBER_LIMIT) (nat_le x.dim GREATEST_DIM)
+    (lt-ltb x.number NUMBER_LIMIT h.number) (le-leb x.dim GREATEST_DIM h.dim)
 
 -- ---- places
 

@@ -1,10 +1,11 @@
--- The printed form of diagrams and arrows of dimension at most 6, with labels within the limits, has the form of a list of
+-- The printed form of diagrams and arrows of dimension at most the greatest, with labels within the limits, has the form of a list of
 -- nodes, and each root has its sort there.
 use Rattle.std.proofs.Common.{◌≡◌, ℕ, zero, suc, ◌<◌, ◌≤◌, true, List, [], ◌∷◌, ◌++◌, length, map, get_or, refl, sym, ap, subst, ◌∙◌, arith, ◌⊎◌, inl, inr, if◌then◌else◌}
 use Rattle.std.specs.Prelude.{◌&&◌, nat_lt, unwrap_or}
 use Rattle.std.specs.List.{flat_map}
 use Rattle.std.proofs.lemmas.Bool.{and_parts, cond-true, cond-false, lt-ltb, le-ltb}
 use Rattle.std.proofs.lemmas.List.{length-map, get_or-map, map-append, append-nil}
+use Rattle.diagram_terms.specs.declared.limits.TheConstants.{GREATEST_DIM}
 use Rattle.diagram_terms.specs.declared.node.Node.{Node}
 use Rattle.diagram_terms.specs.declared.node.Sort.{Sort}
 use Rattle.diagram_terms.specs.declared.node.Sort.TheVariants as sort
@@ -12,7 +13,7 @@ use Rattle.diagram_terms.specs.Tree.{Tree, nil, kind, label_at, from_at, to_at, 
 use Rattle.diagram_terms.specs.Shape.{IsDiagram, IsArrow}
 use Rattle.diagram_terms.specs.Dimension.{dimension_of}
 use Rattle.diagram_terms.specs.Completion.{children, completed, completions, all_numbered, distinct_subtrees, place_in, places_in, node_of, subtree_nodes, root_places, IsAmongFirst, ComesAfterChildren}
-use Rattle.diagram_terms.specs.Nodes.{greatest_dim, is_within_limits, labels_within_limits, dim_of, node_sort, IsNode, sorts_from, sort_at, AreNodesFrom, AreNodes}
+use Rattle.diagram_terms.specs.Nodes.{is_within_limits, labels_within_limits, dim_of, node_sort, IsNode, sorts_from, sort_at, AreNodesFrom, AreNodes}
 use Rattle.diagram_terms.proofs.Completions.{AllIn, children-point, children-zig, children-ends, children-zag, all_numbered-append, in-all_numbered, after-none, after-numbered, lists_each_once}
 use Rattle.diagram_terms.proofs.Dimensions.{diagram_dimension, arrow_dimension}
 use Rattle.diagram_terms.proofs.NodeForms.{AreChildren, NodeFits, sort_of-fits, is_node}
@@ -35,11 +36,11 @@ OwnLabelsFit t = labels_within_limits (node_of [] t) ≡ true
 pub record LabelsFit (t : Tree) : Type 0 where
   pub fit : (i : ℕ) → i < length (completions t) → OwnLabelsFit (get_or (completions t) i nil)
 
--- a diagram or an arrow of dimension at most 6 with labels within the limits
+-- a diagram or an arrow of dimension at most the greatest with labels within the limits
 pub record IsPrinted (t : Tree) : Type 0 where
   pub sort : Sort
   pub has_sort : HasSort sort t
-  pub dim : dim_of sort ≤ greatest_dim
+  pub dim : dim_of sort ≤ GREATEST_DIM
   pub labels : LabelsFit t
 
 -- ---- a fact of each tree of some lists
@@ -177,7 +178,7 @@ after_visit (suc n) t h seen after =
 
 -- ---- the node of the tree that comes next, behind the sorts of those before
 
-module _ (ts : List Tree) (printable : ArePrintable ts) (sorted : Each (IsUpTo greatest_dim) ts)
+module _ (ts : List Tree) (printable : ArePrintable ts) (sorted : Each (IsUpTo GREATEST_DIM) ts)
     (labelled : Each OwnLabelsFit ts) where
   module _ (seen us : List Tree) (u : Tree) (e : ts ≡ seen ++ (u ∷ us)) where
     children_fit : (s : Sort) (vs : List Tree) → EachAmong (length seen) ts vs → Each (HasSort s) vs
@@ -215,7 +216,7 @@ module _ (ts : List Tree) (printable : ArePrintable ts) (sorted : Each (IsUpTo g
         sym (ap labels_within_limits (ap (node_of []) h ∙ node_of-point [] x)) ∙ next_labels in
         subst (Fits (sort.Diagram zero)) (sym (ap (node_of ts) h ∙ node_of-point ts x)) (refl, within_limits x own)
 
-    zig_fits : (d : ℕ) → IsDiagram (suc d) u → d < greatest_dim → Fits (sort.Diagram (suc d)) (node_of ts u)
+    zig_fits : (d : ℕ) → IsDiagram (suc d) u → d < GREATEST_DIM → Fits (sort.Diagram (suc d)) (node_of ts u)
     zig_fits d h l =
         let P = IsAmongFirst (length seen) ts in
         let all = subst (Each P) (ap children h.is_zig ∙ children-zig (regs u) (sings u) (fwds u) (bwds u)) next_children in
@@ -255,7 +256,7 @@ module _ (ts : List Tree) (printable : ArePrintable ts) (sorted : Each (IsUpTo g
         subst (Fits (sort.Arrow zero)) (sym (ap (node_of ts) h ∙ node_of-ends ts x y))
         (refl, within_limits x both.0, within_limits y both.1)
 
-    zag_fits : (d : ℕ) → IsArrow (suc d) u → d < greatest_dim → Fits (sort.Arrow (suc d)) (node_of ts u)
+    zag_fits : (d : ℕ) → IsArrow (suc d) u → d < GREATEST_DIM → Fits (sort.Arrow (suc d)) (node_of ts u)
     zag_fits d h l =
         let P = IsAmongFirst (length seen) ts in
         let all = subst (Each P) (ap children h.is_zag ∙ children-zag (heights u) (regs u) (sings u)) next_children in
@@ -279,14 +280,14 @@ module _ (ts : List Tree) (printable : ArePrintable ts) (sorted : Each (IsUpTo g
           },
         )
 
-    fits_by : (s : Sort) → HasSort s u → dim_of s ≤ greatest_dim → Fits s (node_of ts u)
+    fits_by : (s : Sort) → HasSort s u → dim_of s ≤ GREATEST_DIM → Fits s (node_of ts u)
     fits_by (sort.Diagram zero) h l = point_fits h
     fits_by (sort.Diagram (suc d)) h l = zig_fits d h (omega arith)
     fits_by (sort.Arrow zero) h l = ends_fits h
     fits_by (sort.Arrow (suc d)) h l = zag_fits d h (omega arith)
 
-    next_sort : IsUpTo greatest_dim u
-    next_sort = subst (IsUpTo greatest_dim) (next_is ts seen us u e) (sorted (length seen) (next_within ts seen us u e))
+    next_sort : IsUpTo GREATEST_DIM u
+    next_sort = subst (IsUpTo GREATEST_DIM) (next_is ts seen us u e) (sorted (length seen) (next_within ts seen us u e))
 
     next_fits : NodeFits (map sort_in seen) (length (map sort_in seen)) next_sort.sort (node_of ts u)
     next_fits =
@@ -321,12 +322,12 @@ module _ (ts : List Tree) (printable : ArePrintable ts) (sorted : Each (IsUpTo g
 -- ---- the printed form of some roots
 
 module _ (roots : List Tree) (printed : Each IsPrinted roots) where
-  visit_up_to : Each (λ t. Each (IsUpTo greatest_dim) (completions t)) roots
+  visit_up_to : Each (λ t. Each (IsUpTo GREATEST_DIM) (completions t)) roots
   visit_up_to k l =
       let t = get_or roots k nil in
       let h = printed k l in
-      subst (λ n. Each (IsUpTo greatest_dim) (completed n t)) (sym (dimension_of_sort h.sort t h.has_sort))
-      (λ i m. wider (dim_of h.sort) greatest_dim _ h.dim
+      subst (λ n. Each (IsUpTo GREATEST_DIM) (completed n t)) (sym (dimension_of_sort h.sort t h.has_sort))
+      (λ i m. wider (dim_of h.sort) GREATEST_DIM _ h.dim
       (completed_up_to (dim_of h.sort) t (of_sort h.sort t h.has_sort) i m))
 
   visit_keeps : Each (KeepsOrder completions) roots
@@ -342,8 +343,8 @@ module _ (roots : List Tree) (printed : Each IsPrinted roots) where
       let from = (lists_each_once roots).only i l in
       subst P from.is (each_flat_map P completions roots h from.place from.before)
 
-  listed_up_to : Each (IsUpTo greatest_dim) (distinct_subtrees roots)
-  listed_up_to = each_listed (IsUpTo greatest_dim) visit_up_to
+  listed_up_to : Each (IsUpTo GREATEST_DIM) (distinct_subtrees roots)
+  listed_up_to = each_listed (IsUpTo GREATEST_DIM) visit_up_to
 
   listed_labels : Each OwnLabelsFit (distinct_subtrees roots)
   listed_labels = each_listed OwnLabelsFit (λ k l. (printed k l).labels.fit)

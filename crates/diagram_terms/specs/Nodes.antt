@@ -2,6 +2,7 @@
 use Rattle.std.specs.Prelude.{◌≡◌, ℕ, suc, List, [], ◌∷◌, ◌++◌, length, map, get_or, Bool, true, false, ◌&&◌, ◌==◌, nat_lt, nat_le, if◌then◌else◌, Option, Some, None, IsSome, unwrap_or}
 use Rattle.std.specs.List.{list_all}
 use Rattle.diagram_terms.specs.declared.label.Label.{Label}
+use Rattle.diagram_terms.specs.declared.limits.TheConstants.{GREATEST_DIM, NUMBER_LIMIT}
 use Rattle.diagram_terms.specs.declared.node.Node.{Node}
 use Rattle.diagram_terms.specs.declared.node.Node.TheVariants as node
 use Rattle.diagram_terms.specs.declared.node.Sort.{Sort}
@@ -35,15 +36,9 @@ tree_at nodes i = get_or (trees_of nodes) i nil
 
 -- ---- the form
 
--- numbers and dimensions of labels are limited
-abbrev pub number_limit : ℕ
-number_limit = 60000
-
-abbrev pub greatest_dim : ℕ
-greatest_dim = 6
-
+-- the number and the dimension of a label are within the limits
 abbrev pub is_within_limits : Label → Bool
-is_within_limits x = nat_lt x.number number_limit && nat_le x.dim greatest_dim
+is_within_limits x = nat_lt x.number NUMBER_LIMIT && nat_le x.dim GREATEST_DIM
 
 abbrev pub labels_within_limits : Node → Bool
 labels_within_limits (node.Label x) = is_within_limits x
@@ -84,17 +79,17 @@ abbrev pub diagram_lengths : List ℕ → List ℕ → List ℕ → List ℕ →
 diagram_lengths rs ss fs bs = (length rs == suc (length ss)) && (length fs == length ss) && (length bs == length ss)
 
 -- A diagram or an arrow whose first regular slice stands at a place: what the sort of that slice is decides what the
--- other parts have to be, and it has a dimension of at most 5.
+-- other parts have to be, and its dimension is below the greatest.
 abbrev pub diagram_over : List Sort → List ℕ → List ℕ → List ℕ → List ℕ → Sort → Option Sort
 diagram_over sorts rs ss fs bs (sort.Arrow d) = None
 diagram_over sorts rs ss fs bs (sort.Diagram d) =
-    if nat_lt d greatest_dim && all_of sorts (sort.Diagram d) rs && all_of sorts (sort.Diagram d) ss && all_of sorts (sort.Arrow d) fs && all_of sorts (sort.Arrow d) bs
+    if nat_lt d GREATEST_DIM && all_of sorts (sort.Diagram d) rs && all_of sorts (sort.Diagram d) ss && all_of sorts (sort.Arrow d) fs && all_of sorts (sort.Arrow d) bs
     then Some (sort.Diagram (suc d)) else None
 
 abbrev pub arrow_over : List Sort → List ℕ → List ℕ → Sort → Option Sort
 arrow_over sorts rs ss (sort.Diagram d) = None
 arrow_over sorts rs ss (sort.Arrow d) =
-    if nat_lt d greatest_dim && all_of sorts (sort.Arrow d) rs && all_of sorts (sort.Arrow d) ss
+    if nat_lt d GREATEST_DIM && all_of sorts (sort.Arrow d) rs && all_of sorts (sort.Arrow d) ss
     then Some (sort.Arrow (suc d)) else None
 
 abbrev pub first_sort : List Sort → List ℕ → Sort

@@ -1,8 +1,8 @@
 -- What stands in the way of a generator that is to be added to a signature: the first obstacle in the order.
 use Rattle.std.specs.Prelude.{suc, List, length, Bool, ◌==◌, nat_le, nat_lt, if◌then◌else◌, Option, Some, None, option_map}
+use Rattle.diagram_terms.specs.declared.limits.TheConstants.{GREATEST_DIM, MAX_GENERATORS}
 use Rattle.diagram_terms.specs.declared.place.Fault.{Fault}
 use Rattle.diagram_terms.specs.Dimension.{dimension_of}
-use Rattle.diagram_terms.specs.Nodes.{greatest_dim, number_limit}
 use Rattle.diagram_terms.specs.Slices.{have_one_boundary}
 use Rattle.diagram_terms.specs.Tree.{Tree}
 use Rattle.diagram_terms.specs.Typing.{Generator, first_fault_in, first_of}
@@ -29,11 +29,11 @@ abbrev pub boundary_obstacle : Generator → Option Obstacle
 boundary_obstacle None = None
 boundary_obstacle (Some (s, t)) =
     first_of (unless (dimension_of s == dimension_of t) dim_differs)
-    (first_of (unless (have_one_boundary s t) not_parallel) (unless (nat_le (suc (dimension_of s)) greatest_dim) dim_limit))
+    (first_of (unless (have_one_boundary s t) not_parallel) (unless (nat_le (suc (dimension_of s)) GREATEST_DIM) dim_limit))
 
 -- no number is left for a generator
 abbrev pub count_obstacle : List Generator → Option Obstacle
-count_obstacle generators = unless (nat_lt (length generators) number_limit) count_limit
+count_obstacle generators = unless (nat_lt (length generators) MAX_GENERATORS) count_limit
 
 -- an end of the boundary is not well typed
 abbrev pub end_obstacle : List Generator → Tree → Option Obstacle

@@ -2,6 +2,7 @@
 use Rattle.std.proofs.Common.{◌≡◌, ℕ, zero, suc, ◌<◌, ◌≤◌, List, length, get_or, Option, sym, ap, ◌∙◌, subst, arith}
 use Rattle.std.proofs.lemmas.List.{get_or_default}
 use Rattle.std.proofs.lemmas.List.Elements.{All-get_or}
+use Rattle.diagram_terms.specs.declared.limits.TheConstants.{GREATEST_DIM}
 use Rattle.diagram_terms.specs.declared.node.Node.{Node}
 use Rattle.diagram_terms.specs.declared.place.Place.{Place}
 use Rattle.diagram_terms.specs.Tree.{Tree, sings}
@@ -10,7 +11,7 @@ use Rattle.diagram_terms.specs.Decoded.{dia}
 use Rattle.diagram_terms.specs.Shape.{IsDiagram, IsArrow}
 use Rattle.diagram_terms.specs.Places.{first_bad_place}
 use Rattle.diagram_terms.specs.Dimension.{dimension_of}
-use Rattle.diagram_terms.specs.Nodes.{AreNodes, tree_at, dim_of, greatest_dim}
+use Rattle.diagram_terms.specs.Nodes.{AreNodes, tree_at, dim_of}
 use Rattle.diagram_terms.proofs.Dimensions.{diagram_dimension}
 use Rattle.diagram_terms.proofs.NodeShapes.{diagram_at, dim_of-sort_at}
 use Rattle.diagram_terms.proofs.Shapes.{one_kind}
@@ -58,7 +59,7 @@ module _ (nodes : List Node) (form : AreNodes nodes) (c : Contents) (ids : List 
   pub read_kind : (x : AnyId) → x ≡ get_or ids place x → IsDiagramId x
   read_kind x is = subst IsDiagramId (sym (read_id x is)) place_kind
 
-  pub place_dim : dimension_of (tree_at nodes place) ≤ greatest_dim
+  pub place_dim : dimension_of (tree_at nodes place) ≤ GREATEST_DIM
   place_dim =
       let e = diagram_dimension at.dim (tree_at nodes place) place_shape in
       let s = ap dim_of at.stands in
@@ -85,8 +86,8 @@ module _ (nodes : List Node) (form : AreNodes nodes) (old : Contents) (ids : Lis
   pub entry_tree : store.diagram_at old d ≡ tree_at nodes entry.root
   entry_tree = ap (tree_of old) (sym named) ∙ of.are entry.root at.within
 
-  pub entry_dim : dimension_of (store.diagram_at old d) ≤ greatest_dim
-  entry_dim = subst (λ (t : Tree). dimension_of t ≤ greatest_dim) (sym entry_tree) (place_dim nodes form old ids of is_store entry.root at)
+  pub entry_dim : dimension_of (store.diagram_at old d) ≤ GREATEST_DIM
+  entry_dim = subst (λ (t : Tree). dimension_of t ≤ GREATEST_DIM) (sym entry_tree) (place_dim nodes form old ids of is_store entry.root at)
 
   pub entry_reply : (reply : Reply) → reply ≡ tree_reply entry.name (store.diagram_at old d) → reply ≡ look_reply nodes entry
   entry_reply reply e = e ∙ ap (tree_reply entry.name) entry_tree

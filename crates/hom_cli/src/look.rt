@@ -2,8 +2,8 @@ ghost use Rattle.std.specs.Prelude.{◌≡◌, ◌≤◌, ℕ, Ok, OnOk, OnErr, 
 ghost use Rattle.std.specs.Io.KnownBytes.{Appends};
 ghost use Rattle.io_edge.specs.Counts.{Rose};
 ghost use Rattle.io_edge.specs.Transfers.{AppendsPrefix};
+ghost use Rattle.diagram_terms.specs.declared.limits.TheConstants.{GREATEST_DIM};
 ghost use Rattle.diagram_terms.specs.Dimension.{dimension_of};
-ghost use Rattle.diagram_terms.specs.Nodes.{greatest_dim};
 ghost use Rattle.hashcons.specs.Contents.{IsDiagramOf, Grows, IsStore, diagram_at};
 ghost use Rattle.node_json.specs.Documents.{IsDocument};
 ghost use Rattle.zigzag_maps.specs.Keeps.{AreRight};
@@ -40,7 +40,7 @@ fn looked_at(
 ) -> Result<Reply, AllocError>
     requires of_store { IsDiagramOf store.old diagram }
     requires kept { AreRight store.old kept.old }
-    requires dim { dimension_of (diagram_at store.old diagram) ≤ greatest_dim }
+    requires dim { dimension_of (diagram_at store.old diagram) ≤ GREATEST_DIM }
     ensures reply { IfOk result (λ reply. reply ≡ tree_reply name.now (diagram_at store.old diagram)) }
     ensures kept { AreRight store.new kept.new }
     ensures grows { Grows store.old store.new }

@@ -8,10 +8,11 @@ use Rattle.std.proofs.lemmas.Map.Keys.{IsDistinct-push}
 use Rattle.std.proofs.lemmas.Option.{slice_get_cases, get_or_from_slice_get}
 use Rattle.std.specs.List.{All, IsDistinct, slice_get}
 use Rattle.serde_json.specs.Data.{Data}
+use Rattle.diagram_terms.specs.declared.limits.TheConstants.{MAX_GENERATORS}
 use Rattle.diagram_terms.specs.declared.node.Node.{Node}
 use Rattle.diagram_terms.specs.declared.node.Sort.{Sort}
 use Rattle.diagram_terms.specs.declared.node.Sort.TheVariants as sort
-use Rattle.diagram_terms.specs.Nodes.{number_limit, sorts_of}
+use Rattle.diagram_terms.specs.Nodes.{sorts_of}
 use Rattle.node_json.specs.declared.document.GeneratorEntry.{GeneratorEntry}
 use Rattle.node_json.specs.declared.document.DiagramEntry.{DiagramEntry}
 use Rattle.node_json.specs.declared.document.MapEntry.{MapEntry}
@@ -190,16 +191,16 @@ entries_none name fits before are = record { each_fits = λ k d h. absurd (omega
 
 pub record AreGenerators (nodes : List Node) (generators : List GeneratorEntry) : Type 0 where
   pub entries : AreEntries (λ e. e.name) (λ e. IsBoundary nodes e.boundary) [] generators
-  pub count : length generators ≤ number_limit
+  pub count : length generators ≤ MAX_GENERATORS
 
 module _ (nodes : List Node) where
   generators_push : (done : List GeneratorEntry) (d : Data) (g : GeneratorEntry) → AreGenerators nodes done
       → generator_at (sorts_of nodes) (is_among []) done d ≡ Ok g → AreGenerators nodes (done ++ g ∷ [])
   unfolding generator_at
   generators_push done d g are is =
-      let r = gave (when (nat_lt (length done) number_limit) (entry_fault field.Generators (length done))) _ g is in
-      let room : nat_lt (length done) number_limit ≡ true = passed _ _ r.value r.was in
-      let within : length done < number_limit = ltb-true (length done) number_limit room in
+      let r = gave (when (nat_lt (length done) MAX_GENERATORS) (entry_fault field.Generators (length done))) _ g is in
+      let room : nat_lt (length done) MAX_GENERATORS ≡ true = passed _ _ r.value r.was in
+      let within : length done < MAX_GENERATORS = ltb-true (length done) MAX_GENERATORS room in
       record {
         entries = entries_push (λ e. e.name) (λ e. IsBoundary nodes e.boundary) [] done g are.entries
             (generator_entry_is (entry_fault field.Generators (length done)) nodes [] (generator_names done) d g r.then);

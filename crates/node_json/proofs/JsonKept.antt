@@ -3,9 +3,10 @@ use Rattle.std.proofs.Common.{◌≡◌, ℕ, List, [], ◌∷◌, ◌++◌, cod
 use Rattle.std.specs.Prelude.{option_and_then, slice_get}
 use Rattle.serde_json.specs.Data.{Data}
 use Rattle.serde_json.specs.Find.{get}
+use Rattle.diagram_terms.specs.declared.limits.TheConstants.{MAX_GENERATORS}
 use Rattle.diagram_terms.specs.declared.node.Node.{Node}
 use Rattle.diagram_terms.specs.declared.node.Sort.{Sort}
-use Rattle.diagram_terms.specs.Nodes.{number_limit, labels_within_limits, places_below, sort_of, sorts_of}
+use Rattle.diagram_terms.specs.Nodes.{labels_within_limits, places_below, sort_of, sorts_of}
 use Rattle.node_json.specs.declared.document.Document.{Document}
 use Rattle.node_json.specs.declared.fault.Field.TheVariants as field
 use Rattle.node_json.specs.declared.fault.FormFault.{FormFault}
@@ -133,7 +134,7 @@ module _ (sorts : List Sort) (taken : List ℕ → Bool) (ds : List Data) where
   generators_other : Others (generators_in sorts taken ds)
   unfolding generator_at
   generators_other = each_other (generator_at sorts taken) (λ done d.
-      then_other (when (nat_lt (length done) number_limit) (entry_fault field.Generators (length done))) _ (when_other (entry_fault field.Generators (length done)) tt _) (λ t.
+      then_other (when (nat_lt (length done) MAX_GENERATORS) (entry_fault field.Generators (length done))) _ (when_other (entry_fault field.Generators (length done)) tt _) (λ t.
       generator_other (entry_fault field.Generators (length done)) tt sorts (also taken (generator_names done)) d)) [] ds
 
   diagrams_other : Others (diagrams_in sorts taken ds)

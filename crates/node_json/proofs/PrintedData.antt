@@ -7,10 +7,11 @@ use Rattle.json.proofs.Printed.Utf8.{are_ascii}
 use Rattle.serde_json.specs.Data.{Data, depth}
 use Rattle.serde_json.specs.Read.{max_depth}
 use Rattle.diagram_terms.specs.declared.label.Label.{Label}
+use Rattle.diagram_terms.specs.declared.limits.TheConstants.{GREATEST_DIM, NUMBER_LIMIT}
 use Rattle.diagram_terms.specs.declared.node.Node.{Node}
 use Rattle.diagram_terms.specs.declared.node.Node.TheVariants as node
 use Rattle.diagram_terms.specs.declared.node.Sort.{Sort}
-use Rattle.diagram_terms.specs.Nodes.{number_limit, greatest_dim, is_within_limits, labels_within_limits, node_sort, AreNodesFrom}
+use Rattle.diagram_terms.specs.Nodes.{is_within_limits, labels_within_limits, node_sort, AreNodesFrom}
 use Rattle.node_json.specs.declared.document.DiagramEntry.{DiagramEntry}
 use Rattle.node_json.specs.declared.document.MapEntry.{MapEntry}
 use Rattle.node_json.specs.declared.document.Document.{Document}
@@ -48,9 +49,9 @@ numbers_can_return ns words = items_can_return whole ns (recursion_from_All IsWo
 
 label_can_return : (x : Label) → is_within_limits x ≡ true → CanReturn (label_data x)
 label_can_return x within =
-    let p = and_parts (nat_lt x.number number_limit) (nat_le x.dim greatest_dim) within in
-    let number : x.number < 2 ^ 64 = omega (arith, ltb-true x.number number_limit p.0) in
-    let dim : x.dim < 2 ^ 64 = omega (arith, leb-true x.dim greatest_dim p.1) in
+    let p = and_parts (nat_lt x.number NUMBER_LIMIT) (nat_le x.dim GREATEST_DIM) within in
+    let number : x.number < 2 ^ 64 = omega (arith, ltb-true x.number NUMBER_LIMIT p.0) in
+    let dim : x.dim < 2 ^ 64 = omega (arith, leb-true x.dim GREATEST_DIM p.1) in
     (number, (dim, tt))
 
 -- ---- nodes

@@ -7,9 +7,10 @@ use Rattle.std.proofs.lemmas.List.Elements.{recursion_from_All, All-from_recursi
 use Rattle.std.proofs.lemmas.Option.{slice_get-get_or}
 use Rattle.std.specs.List.{IsDistinct, slice_get}
 use Rattle.serde_json.specs.View.{items_of}
+use Rattle.diagram_terms.specs.declared.limits.TheConstants.{MAX_GENERATORS}
 use Rattle.diagram_terms.specs.declared.node.Node.{Node}
 use Rattle.diagram_terms.specs.declared.node.Sort.TheVariants as sort
-use Rattle.diagram_terms.specs.Nodes.{number_limit, sorts_of}
+use Rattle.diagram_terms.specs.Nodes.{sorts_of}
 use Rattle.diagram_terms.proofs.NodeForms.{length-sorts_of}
 use Rattle.node_json.specs.declared.document.GeneratorEntry.{GeneratorEntry}
 use Rattle.node_json.specs.declared.document.DiagramEntry.{DiagramEntry}
@@ -121,9 +122,9 @@ module _ (nodes : List Node) where
   unfolding generator_at
   generator_behind done g rest are =
       let wrong = entry_fault field.Generators (length done) in
-      let room : length done < number_limit = omega (arith, are.count, length-append done (g ∷ rest)) in
+      let room : length done < MAX_GENERATORS = omega (arith, are.count, length-append done (g ∷ rest)) in
       let new = entry_is_new (λ x. x.name) (λ x. IsBoundary nodes x.boundary) [] done g rest are.entries in
-      tested (nat_lt (length done) number_limit) wrong _ (lt-ltb (length done) number_limit room)
+      tested (nat_lt (length done) MAX_GENERATORS) wrong _ (lt-ltb (length done) MAX_GENERATORS room)
       ∙ generator_reads wrong nodes [] (generator_names done) g.name g.boundary new
       (fits_middle (λ x. IsBoundary nodes x.boundary) done g rest are.entries.each_fits)
 

@@ -1,9 +1,10 @@
 -- The form of a document.
 use Rattle.std.specs.Prelude.{◌≡◌, ℕ, ◌<◌, ◌≤◌, List, ◌++◌, length, true, Option, Some, None, bytes_eq}
 use Rattle.std.specs.List.{All, IsDistinct}
+use Rattle.diagram_terms.specs.declared.limits.TheConstants.{MAX_GENERATORS}
 use Rattle.diagram_terms.specs.declared.node.Node.{Node}
 use Rattle.diagram_terms.specs.declared.node.Sort.TheVariants as sort
-use Rattle.diagram_terms.specs.Nodes.{AreNodes, sort_at, number_limit}
+use Rattle.diagram_terms.specs.Nodes.{AreNodes, sort_at}
 use Rattle.node_json.specs.declared.document.Document.{Document}
 use Rattle.node_json.specs.declared.document.MapEntry.{MapEntry}
 use Rattle.node_json.specs.Names.{is_good_name}
@@ -50,7 +51,7 @@ pub record AreNames (names : List (List ℕ)) : Type 0 where
 pub record IsDocument (document : Document) : Type 0 where
   pub nodes : AreNodes document.nodes
   pub generators : All (λ g. IsBoundary document.nodes g.boundary) document.generators
-  pub count : length document.generators ≤ number_limit
+  pub count : length document.generators ≤ MAX_GENERATORS
   pub diagrams : All (λ e. IsDiagramPlace document.nodes e.root) document.diagrams
   pub maps : All (IsMapEntry document.nodes) document.maps
   pub names : AreNames (names_of document)

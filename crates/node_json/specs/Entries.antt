@@ -2,9 +2,9 @@
 -- place out of range or of the wrong kind, or has a bad name or one that stands before is a fault.
 use Rattle.std.specs.Prelude.{ℕ, List, [], ◌∷◌, length, map, codes, Bool, true, false, not, ◌&&◌, nat_lt, slice_get, if◌then◌else◌, Option, Some, None, Result, Ok}
 use Rattle.serde_json.specs.Data.{Data}
+use Rattle.diagram_terms.specs.declared.limits.TheConstants.{MAX_GENERATORS}
 use Rattle.diagram_terms.specs.declared.node.Sort.{Sort}
 use Rattle.diagram_terms.specs.declared.node.Sort.TheVariants as sort
-use Rattle.diagram_terms.specs.Nodes.{number_limit}
 use Rattle.node_json.specs.declared.fault.Field.{Field}
 use Rattle.node_json.specs.declared.fault.Field.TheVariants as field
 use Rattle.node_json.specs.declared.fault.FormFault.{FormFault}
@@ -106,7 +106,7 @@ entry_fault f n = fault.Form f (Some n)
 -- a generator, behind fewer than there are numbers of labels
 unfoldable pub generator_at : List Sort → (List ℕ → Bool) → List GeneratorEntry → Data → Result GeneratorEntry FormFault
 generator_at sorts taken done d = do
-  room ← when (nat_lt (length done) number_limit) (entry_fault field.Generators (length done))
+  room ← when (nat_lt (length done) MAX_GENERATORS) (entry_fault field.Generators (length done))
   generator_entry (entry_fault field.Generators (length done)) sorts (also taken (generator_names done)) d
 
 -- a diagram
