@@ -37,6 +37,13 @@ pub mod Neighbourhoods
 pub mod PulledPoints
 pub mod Places
 pub mod Order
+pub mod SameDiagrams
+pub mod Good
+pub mod Segments
+pub mod Occurrences
+pub mod Attachment
+pub mod Merging
+pub mod Expansion
 pub mod Levels
 pub mod Nodes
 pub mod Values
