@@ -25,6 +25,15 @@ pub mod Valid
 pub mod ValidTrees
 pub mod Degeneracy
 pub mod Least
+pub mod Factors
+pub mod NormalForms
+pub mod Certificates
+pub mod PlainForms
+pub mod Constants
+pub mod LabelsOf
+pub mod SliceMaps
+pub mod Relabelling
+pub mod Suspension
 pub mod Regions
 pub mod Preimages
 pub mod ClosedRegions

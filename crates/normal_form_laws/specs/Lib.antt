@@ -1,0 +1,4 @@
+pub mod Carried
+pub mod CarriedTypes
+pub mod Laws
+pub mod PlainLaws
