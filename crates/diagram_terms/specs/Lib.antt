@@ -53,6 +53,14 @@ pub mod Occurrences
 pub mod Attachment
 pub mod Merging
 pub mod Expansion
+pub mod HeightClasses
+pub mod OrderFaults
+pub mod Ranks
+pub mod Shapes
+pub mod Cocones
+pub mod ClassParts
+pub mod Colimits
+pub mod ColimitRefusals
 pub mod Levels
 pub mod Nodes
 pub mod Values

@@ -1,0 +1,3 @@
+pub mod RankConditions
+pub mod EachObject
+pub mod Laws
