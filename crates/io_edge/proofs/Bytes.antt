@@ -4,7 +4,7 @@ use Rattle.std.proofs.lemmas.List.{take_at, drop-drop, drop_all, length-take, le
 use Rattle.std.proofs.Math.Seq.{take-add}
 use Rattle.std.proofs.KnownBytes.{Appends-trans, Appends-kept}
 use Rattle.std.specs.Io.KnownBytes.{Appends, Keeps}
-use Rattle.io_edge.specs.Transfers.{AppendsPrefix}
+use Rattle.io_edge.specs.Transfers.{AppendsPrefix, AppendsLess}
 
 -- what is left after the first n of what is left
 pub drop_split : (xs : List ℕ) (at n : ℕ) → drop at xs ≡ take n (drop at xs) ++ drop (at + n) xs
@@ -52,4 +52,15 @@ left_prefix a b c piece at before kept = record {
   rest = drop at piece;
   whole = take-append-drop at piece;
   appended = Appends-kept a b c _ before kept;
+}
+
+-- and not the whole piece, where some of it was left
+pub left_less : (a b c : Option (List ℕ)) (piece : List ℕ) (at : ℕ)
+    → at < length piece → Appends a b (take at piece) → Keeps b c → AppendsLess a c piece
+unfolding left_prefix
+left_less a b c piece at within before kept = record {
+  prefix = left_prefix a b c piece at before kept;
+  more =
+      let left : 0 < length (drop at piece) = omega (arith, length-drop at piece) in
+      left;
 }

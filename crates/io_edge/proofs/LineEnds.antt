@@ -1,12 +1,13 @@
 -- The first line of bytes that begin with a part of a line, and of a piece of a buffer.
-use Rattle.std.proofs.Common.{◌≡◌, ℕ, ◌+◌, ◌-◌, ◌<◌, ◌≤◌, List, [], ◌∷◌, ◌++◌, length, take, drop, true, false, cond, eqb, ltb, ◌⊎◌, not, None, Some, slice_range, refl, sym, ap, ◌∙◌, arith, length-append, length-take, length-drop}
+use Rattle.std.proofs.Common.{◌≡◌, ℕ, ◌+◌, ◌-◌, ◌<◌, ◌≤◌, List, [], ◌∷◌, ◌++◌, length, take, drop, true, false, cond, eqb, ltb, ◌⊎◌, ◌||◌, not, None, Some, slice_range, refl, sym, ap, ◌∙◌, arith, length-append, length-take, length-drop}
 use Rattle.std.specs.List.{position}
 use Rattle.std.proofs.Math.Seq.{take-append-add, drop-append-add}
 use Rattle.std.proofs.lemmas.List.{drop_min, drop-take, drop-drop, drop_all, take_all}
 use Rattle.std.proofs.lemmas.List.Sums.{prefix_len-le-length}
 use Rattle.std.proofs.lemmas.List.Folds.{prefix_len-append}
 use Rattle.std.proofs.lemmas.Bool.Decides.{nat_tests}
-use Rattle.io_edge.specs.Lines.{line_end, has_newline, first_line, behind_line, line_extent, is_too_long, line_of, line_limit, input_limit}
+use Rattle.io_edge.specs.declared.limits.TheConstants.{INPUT_LIMIT, LINE_LIMIT}
+use Rattle.io_edge.specs.Lines.{line_end, has_newline, first_line, behind_line, line_extent, is_too_long, line_of}
 
 pub line_end-le-length : (bytes : List ℕ) → line_end bytes ≤ length bytes
 line_end-le-length bytes = prefix_len-le-length (λ byte. not (eqb byte 10)) bytes
@@ -104,12 +105,34 @@ pub line_of-some : (bytes : List ℕ) → 0 < length bytes → line_of bytes ≡
 line_of-some [] some = absurd (omega arith)
 line_of-some (byte ∷ bytes) some = refl
 
-pub not_too_long : (at : ℕ) (bytes : List ℕ) → line_end bytes ≤ line_limit → at + line_extent bytes ≤ input_limit → is_too_long at bytes ≡ false
+pub not_too_long : (at : ℕ) (bytes : List ℕ) → line_end bytes ≤ LINE_LIMIT → at + line_extent bytes ≤ INPUT_LIMIT → is_too_long at bytes ≡ false
 not_too_long at bytes short within =
     let e = length-first_line bytes in
     grind (arith, nat_tests)
 
-pub surely_too_long : (at : ℕ) (bytes : List ℕ) → (line_limit < line_end bytes) ⊎ (input_limit < at + line_extent bytes) → is_too_long at bytes ≡ true
+pub surely_too_long : (at : ℕ) (bytes : List ℕ) → (LINE_LIMIT < line_end bytes) ⊎ (INPUT_LIMIT < at + line_extent bytes) → is_too_long at bytes ≡ true
 surely_too_long at bytes too_long =
     let e = length-first_line bytes in
     grind (arith, nat_tests)
+
+-- ---- whatever more there is
+
+-- a newline stays
+pub has_newline-more : (known more : List ℕ) → has_newline known ≡ true → has_newline (known ++ more) ≡ true
+has_newline-more known more e =
+    let joined = prefix_len-append (λ byte. not (eqb byte 10)) known more in
+    let l = length-append known more in
+    grind (arith, nat_tests)
+
+or_more : (m n a b a' b' : ℕ) → a ≤ a' → b ≤ b' → (ltb m a || ltb n b) ≡ true → (ltb m a' || ltb n b') ≡ true
+or_more m n a b a' b' l l' e = grind (arith, nat_tests)
+
+-- a line that is too long stays so, whatever more there is
+pub is_too_long-more : (at : ℕ) (known more : List ℕ) → is_too_long at known ≡ true → is_too_long at (known ++ more) ≡ true
+is_too_long-more at known more e =
+    let joined = prefix_len-append (λ byte. not (eqb byte 10)) known more in
+    let within = line_end-le-length known in
+    let longer : line_end known ≤ line_end (known ++ more) = grind (arith, nat_tests) in
+    or_more LINE_LIMIT INPUT_LIMIT (length (first_line known)) (at + line_extent known) (length (first_line (known ++ more))) (at + line_extent (known ++ more))
+    (omega (arith, length-first_line known, length-first_line (known ++ more)))
+    (omega (arith, length-append known more)) e

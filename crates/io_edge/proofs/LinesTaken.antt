@@ -7,9 +7,10 @@ use Rattle.std.proofs.lemmas.List.{take-append-le, drop-append-le, nil_from_leng
 use Rattle.std.proofs.lemmas.List.Folds.{prefix_len-append}
 use Rattle.io_edge.specs.declared.lines.LineFault.{LineFault}
 use Rattle.io_edge.specs.declared.lines.LineFault.TheVariants.{TooLong}
-use Rattle.io_edge.specs.Lines.{Lines, line_before, stopped_by_long, lines_of, line_of, line_end, has_newline, first_line, behind_line, line_extent, is_too_long, line_limit, input_limit, ReaderState, TakesLine, rest_of, AnswersFirst}
-use Rattle.io_edge.proofs.LineEnds.{line_end-le-length, length-first_line}
-use Rattle.io_edge.proofs.AllLines.{lines_by_first, lines_of_first, by_long}
+use Rattle.io_edge.specs.declared.limits.TheConstants.{INPUT_LIMIT, LINE_LIMIT}
+use Rattle.io_edge.specs.Lines.{stopped_by_long, lines_of, line_of, line_end, has_newline, first_line, behind_line, line_extent, is_too_long, ReaderState, TakesLine, rest_of, AnswersFirst}
+use Rattle.io_edge.proofs.LineEnds.{line_end-le-length, is_too_long-more}
+use Rattle.io_edge.proofs.AllLines.{lines_of_first, by_long}
 
 -- ---- bytes of which some are known
 
@@ -54,71 +55,17 @@ holds_up_to known more ended none = by_cases (has_newline known) refl
 module _ (known more : List ℕ) (holds : HoldsFirst known more) where
   pub is_too_long-held : (at : ℕ) → is_too_long at (known ++ more) ≡ is_too_long at known
   is_too_long-held at =
-      λ i. ltb line_limit (length (holds.first i)) || ltb input_limit (at + holds.extent i)
+      λ i. ltb LINE_LIMIT (length (holds.first i)) || ltb INPUT_LIMIT (at + holds.extent i)
 
-  pub lines_by_first-held : (at : ℕ) → is_too_long at known ≡ false
-      → lines_by_first at (known ++ more) ≡ line_before (first_line known) (lines_of (at + line_extent known) (behind_line known ++ more))
-  lines_by_first-held at fits =
-      λ i. cond ((is_too_long-held at ∙ fits) i) stopped_by_long
-      (line_before (holds.first i) (lines_of (at + holds.extent i) (holds.behind i)))
+-- ---- a line that is too long
 
-or_more : (m n a b a' b' : ℕ) → a ≤ a' → b ≤ b' → (ltb m a || ltb n b) ≡ true → (ltb m a' || ltb n b') ≡ true
-or_more m n a b a' b' l l' e = grind (arith, nat_tests)
-
--- a line that is too long stays so, whatever more there is
-pub is_too_long-more : (at : ℕ) (known more : List ℕ) → is_too_long at known ≡ true → is_too_long at (known ++ more) ≡ true
-is_too_long-more at known more e =
-    let joined = prefix_len-append (λ byte. not (eqb byte 10)) known more in
-    let within = line_end-le-length known in
-    let longer : line_end known ≤ line_end (known ++ more) = grind (arith, nat_tests) in
-    or_more line_limit input_limit (length (first_line known)) (at + line_extent known) (length (first_line (known ++ more))) (at + line_extent (known ++ more))
-    (omega (arith, length-first_line known, length-first_line (known ++ more)))
-    (omega (arith, length-append known more)) e
-
--- ---- all lines by the answers
-
--- the answered line before these; no line at the end
-abbrev pub lines_with : Option (Vec ℕ) → Lines → Lines
-lines_with None rest = record { lines = []; too_long = false }
-lines_with (Some line) rest = line_before line.items rest
-
-none_known : (bytes : List ℕ) → None ≡ line_of bytes → bytes ≡ []
-none_known [] e = refl
-none_known (byte ∷ bytes) e = cc
-
-some_known : (line bytes : List ℕ) → Some line ≡ line_of bytes → (0 < length bytes) × (line ≡ first_line bytes)
-some_known line [] e = cc
-some_known line (byte ∷ bytes) e = (omega arith, cc)
-
-long_known : (at : ℕ) (bytes : List ℕ) → at ≤ input_limit → is_too_long at bytes ≡ true → 0 < length bytes
+long_known : (at : ℕ) (bytes : List ℕ) → at ≤ INPUT_LIMIT → is_too_long at bytes ≡ true → 0 < length bytes
 long_known at [] within e = absurd (grind (arith, nat_tests))
 long_known at (byte ∷ bytes) within e = omega arith
 
 module _ (old new : ReaderState) (left left' : Option (List ℕ)) (more : List ℕ) where
-  -- With whatever more follows what a call took, none behind the end: the line that it answers is the first of all.
-  pub lines_of_answer : (answer : Option (Vec ℕ)) (takes : TakesLine old new left left' (Ok answer)) → (new.ended ≡ true → more ≡ [])
-      → lines_of old.passed (old.pending ++ (takes.taken ++ more)) ≡ lines_with answer (lines_of new.passed (new.pending ++ more))
-  lines_of_answer None takes end =
-      let nothing : old.pending ++ takes.taken ≡ [] = none_known (old.pending ++ takes.taken) takes.line in
-      let ended : new.ended ≡ true =
-      ap (λ (s : ReaderState). s.ended) takes.state
-      ∙ ap (λ (l : List ℕ). cond (has_newline l) old.ended true) nothing in
-      let no_more : more ≡ [] = end ended in
-      ap (lines_of old.passed) (sym (append_assoc old.pending takes.taken more))
-      ∙ (λ i. lines_of old.passed (nothing i ++ no_more i))
-  lines_of_answer (Some line) takes end =
-      let known = old.pending ++ takes.taken in
-      let at = old.passed in
-      let is : (0 < length known) × (line.items ≡ first_line known) = some_known line.items known takes.line in
-      let ended : new.ended ≡ cond (has_newline known) old.ended true = ap (λ (s : ReaderState). s.ended) takes.state in
-      let holds : HoldsFirst known more = holds_up_to known more old.ended (λ e. end (ended ∙ e)) in
-      ap (lines_of at) (sym (append_assoc old.pending takes.taken more))
-      ∙ lines_of_first at (known ++ more) (omega (arith, is.0, length-append known more))
-      ∙ lines_by_first-held known more holds at takes.within
-      ∙ (λ i. line_before (sym is.1 i) (lines_of (sym takes.state i).passed ((sym takes.state i).pending ++ more)))
-
   -- After TooLong no line is left.
-  pub lines_of_too_long : (takes : TakesLine old new left left' (Err TooLong)) → old.passed ≤ input_limit
+  pub lines_of_too_long : (takes : TakesLine old new left left' (Err TooLong)) → old.passed ≤ INPUT_LIMIT
       → lines_of old.passed (old.pending ++ (takes.taken ++ more)) ≡ stopped_by_long
   lines_of_too_long takes within =
       let known = old.pending ++ takes.taken in
@@ -131,7 +78,7 @@ module _ (old new : ReaderState) (left left' : Option (List ℕ)) (more : List �
 
 -- a reader that answers has not gone behind the greatest input
 pub passed_within : (old new : ReaderState) (left left' : Option (List ℕ)) (answer : Option (Vec ℕ)) → TakesLine old new left left' (Ok answer)
-    → new.passed ≤ input_limit
+    → new.passed ≤ INPUT_LIMIT
 passed_within old new left left' answer takes =
     let passes : new.passed ≡ old.passed + line_extent (old.pending ++ takes.taken) = ap (λ (s : ReaderState). s.passed) takes.state in
     let fits = takes.within in

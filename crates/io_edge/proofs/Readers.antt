@@ -1,5 +1,5 @@
 -- A reader of lines on its way to the end of a line.
-use Rattle.std.proofs.Common.{◌≡◌, ℕ, ◌+◌, ◌<◌, ◌≤◌, List, [], ◌++◌, length, Bool, true, false, cond, not, ltb, ◌⊎◌, inl, inr, Option, None, Some, option_map, Ok, Err, IfSome, IfNone, slice_range, refl, sym, ap, ◌∙◌, subst, arith, append_assoc, append-nil, length-append}
+use Rattle.std.proofs.Common.{◌≡◌, ℕ, ◌+◌, ◌<◌, ◌≤◌, List, [], ◌++◌, length, Bool, true, false, cond, not, ltb, ◌||◌, ◌⊎◌, inl, inr, Option, None, Some, option_map, Ok, Err, IfSome, IfNone, slice_range, refl, sym, ap, ◌∙◌, subst, arith, append_assoc, append-nil, length-append}
 use Rattle.std.specs.Global.{Vec}
 use Rattle.std.specs.Io.KnownBytes.{Consumes, IsAtEnd}
 use Rattle.std.proofs.KnownBytes.{Consumes-nil, Consumes-trans}
@@ -8,8 +8,9 @@ use Rattle.std.proofs.lemmas.Bool.Decides.{nat_tests}
 use Rattle.std.proofs.lemmas.List.{nil_from_length}
 use Rattle.io_edge.specs.declared.lines.LineFault.{LineFault}
 use Rattle.io_edge.specs.declared.lines.LineFault.TheVariants.{TooLong}
-use Rattle.io_edge.specs.Lines.{ReaderState, TakesLine, behind_first, line_of, line_end, has_newline, first_line, behind_line, line_extent, is_too_long, line_limit, input_limit}
-use Rattle.io_edge.proofs.LineEnds.{IsPart, behind_piece, first_line_is_all, behind_all, extent_is_all, end_is_length, has_newline-part_alone, line_end-part, has_newline-part, first_line-part, behind_line-part, line_extent-part, line_of-some, not_too_long, surely_too_long}
+use Rattle.io_edge.specs.declared.limits.TheConstants.{INPUT_LIMIT, LINE_LIMIT}
+use Rattle.io_edge.specs.Lines.{ReaderState, TakesLine, TakesNoLine, behind_first, holds_line, line_of, line_end, has_newline, first_line, behind_line, line_extent, is_too_long}
+use Rattle.io_edge.proofs.LineEnds.{IsPart, behind_piece, first_line_is_all, behind_all, extent_is_all, end_is_length, has_newline-part_alone, line_end-part, has_newline-part, first_line-part, behind_line-part, line_extent-part, line_of-some, not_too_long, surely_too_long, has_newline-more, is_too_long-more}
 
 -- the reader behind the first line of its pending bytes
 abbrev pub moved : ReaderState → ReaderState
@@ -58,6 +59,10 @@ pub record JoinsPiece (now behind : ReaderState) (line line' : List ℕ) : Type 
   pub no_newline : false ≡ has_newline now.pending
   pub state : behind ≡ moved now
   pub grown : line' ≡ line ++ first_line now.pending
+
+pub joins_piece : (now behind : ReaderState) (line line' : List ℕ) (newline : Bool) → newline ≡ false → newline ≡ has_newline now.pending
+    → behind ≡ moved now → line' ≡ line ++ first_line now.pending → JoinsPiece now behind line line'
+joins_piece now behind line line' newline none is state grown = record { no_newline = sym none ∙ is; state = state; grown = grown }
 
 module _ (now behind : ReaderState) (line line' : List ℕ) (joins : JoinsPiece now behind line line') where
   joined : line' ≡ line ++ now.pending
@@ -122,6 +127,65 @@ last_answer line None part some none = sym (ap line_of none)
 last_answer line (Some last) part some none =
     ap Some (some.0 ∙ sym (first_line_is_all line (has_newline-part_alone line part))) ∙ sym (line_of-some line some.1)
 
+-- a reader that has no more than a part of a line took no newline
+module _ (old now : ReaderState) (left left' : Option (List ℕ)) (line : List ℕ) (none : now.pending ≡ []) (mid : IsMidLine old now left left' line) where
+  taken_is : old.pending ++ mid.taken ≡ line
+  taken_is = mid.whole ∙ ap (λ (l : List ℕ). line ++ l) none ∙ append-nil line
+
+  fits : length line ≤ LINE_LIMIT → now.passed ≤ INPUT_LIMIT → is_too_long old.passed (old.pending ++ mid.taken) ≡ false
+  fits short within =
+      let extent : line_extent line ≡ length line = extent_is_all line (has_newline-part_alone line mid.part) in
+      ap (is_too_long old.passed) taken_is ∙ not_too_long old.passed line (omega (arith, mid.part.no_newline)) (omega (arith, mid.passed, extent))
+
+  pub no_newline_taken : length line ≤ LINE_LIMIT → now.passed ≤ INPUT_LIMIT → TakesNoLine old left left'
+  no_newline_taken short within = record {
+    taken = mid.taken;
+    consumed = mid.consumed;
+    no_newline = ap has_newline taken_is ∙ sym (has_newline-part_alone line mid.part);
+    not_too_long = fits short within;
+  }
+
+  -- nor where it asked the source for more and got none
+  pub none_taken : (new : ReaderState) (left'' : Option (List ℕ)) → new ≡ now → Consumes left' left'' new.pending → IsMidLine old new left left'' line
+  none_taken new left'' same consumed =
+      let nothing : new.pending ≡ [] = ap (λ (s : ReaderState). s.pending) same ∙ none in
+      record {
+        taken = mid.taken;
+        consumed =
+            subst (Consumes left left'') (ap (λ (l : List ℕ). mid.taken ++ l) nothing ∙ append-nil mid.taken)
+            (Consumes-trans left left' left'' mid.taken new.pending mid.consumed consumed);
+        none_behind_end = mid.none_behind_end;
+        whole = taken_is ∙ sym (ap (λ (l : List ℕ). line ++ l) nothing ∙ append-nil line);
+        part = mid.part;
+        passed = ap (λ (s : ReaderState). s.passed) same ∙ mid.passed;
+        ended = ap (λ (s : ReaderState). s.ended) same ∙ mid.ended;
+        fault = ap (λ (s : ReaderState). s.fault) same ∙ mid.fault;
+      }
+
+  -- and so what was pending held no line before
+  pub no_line_before : length line ≤ LINE_LIMIT → now.passed ≤ INPUT_LIMIT → holds_line old ≡ true → ⊥
+  no_line_before short within holds =
+      let known = old.pending in
+      let lone : has_newline (known ++ mid.taken) ≡ false = ap has_newline taken_is ∙ sym (has_newline-part_alone line mid.part) in
+      no_line (has_newline known) (is_too_long old.passed known)
+      (λ e. false≢true (sym lone ∙ has_newline-more known mid.taken e))
+      (λ e. false≢true (sym (fits short within) ∙ is_too_long-more old.passed known mid.taken e))
+      holds
+    where
+      no_line : (newline long : Bool) → (newline ≡ true → ⊥) → (long ≡ true → ⊥) → (newline || long) ≡ true → ⊥
+      no_line true long a b e = a refl
+      no_line false true a b e = b refl
+      no_line false false a b e = cc
+
+-- a line that went on with a piece without a newline
+pub no_line_joined : (old now behind : ReaderState) (left left' : Option (List ℕ)) (line line' : List ℕ) → JoinsPiece now behind line line'
+    → length line + line_end now.pending ≤ LINE_LIMIT → now.passed + line_extent now.pending ≤ INPUT_LIMIT
+    → IsMidLine old now left left' line → holds_line old ≡ true → ⊥
+no_line_joined old now behind left left' line line' joins short within mid =
+    no_line_before old behind left left' line' (none_pending now behind line line' joins) (piece_joined now behind line line' joins old left left' mid)
+    (omega (arith, length-joined now behind line line' joins, short, end_is_length now.pending joins.no_newline))
+    (omega (arith, passed-behind now behind line line' joins, within, extent_is_all now.pending joins.no_newline))
+
 module _ (old now new : ReaderState) (left left' left'' : Option (List ℕ)) (line : List ℕ) where
   -- the source gave some more
   pub piece_taken : GetsMore now new left' left'' true → IsMidLine old now left left' line → IsMidLine old new left left'' line
@@ -142,7 +206,7 @@ module _ (old now new : ReaderState) (left left' left'' : Option (List ℕ)) (li
 
   -- the line goes up to the end
   pub takes_last : (answer : Option (Vec ℕ)) → GetsMore now new left' left'' false → (now.ended ≡ false → IsAtEnd left'')
-      → length line ≤ line_limit → now.passed ≤ input_limit
+      → length line ≤ LINE_LIMIT → now.passed ≤ INPUT_LIMIT
       → IfSome answer (λ last. (last.items ≡ line) × (0 < length line)) → IfNone answer (line ≡ [])
       → IsMidLine old now left left' line → TakesLine old new left left'' (Ok answer)
   takes_last answer gets end short within some nothing_left mid =
@@ -180,7 +244,7 @@ module _ (old now new : ReaderState) (left left' left'' : Option (List ℕ)) (li
 -- the line goes up to a newline
 pub takes_line : (old now new : ReaderState) (left left' : Option (List ℕ)) (line : List ℕ) (answer : Vec ℕ)
     → true ≡ has_newline now.pending → new ≡ moved now → answer.items ≡ line ++ first_line now.pending
-    → length line + line_end now.pending ≤ line_limit → now.passed + line_extent now.pending ≤ input_limit
+    → length line + line_end now.pending ≤ LINE_LIMIT → now.passed + line_extent now.pending ≤ INPUT_LIMIT
     → IsMidLine old now left left' line → TakesLine old new left left' (Ok (Some answer))
 takes_line old now new left left' line answer some new_is answer_is short within mid =
     let piece = now.pending in
@@ -216,14 +280,14 @@ takes_line old now new left left' line answer some new_is answer_is short within
 
 -- the reader gives up
 pub gives_up : (old now new : ReaderState) (left left' : Option (List ℕ)) (line : List ℕ) (fault : LineFault)
-    → (fault ≡ TooLong → (line_limit < length line + line_end now.pending) ⊎ (input_limit < now.passed + line_extent now.pending))
+    → (fault ≡ TooLong → (LINE_LIMIT < length line + line_end now.pending) ⊎ (INPUT_LIMIT < now.passed + line_extent now.pending))
     → IsMidLine old now left left' line → TakesLine old new left left' (Err fault)
 gives_up old now new left left' line fault too_long mid =
     let ends : line_end (line ++ now.pending) ≡ length line + line_end now.pending = line_end-part line now.pending mid.part in
     let extent : line_extent (line ++ now.pending) ≡ length line + line_extent now.pending = line_extent-part line now.pending mid.part in
     let passed = mid.passed in
-    let goes_on : (line_limit < length line + line_end now.pending) ⊎ (input_limit < now.passed + line_extent now.pending)
-    → (line_limit < line_end (line ++ now.pending)) ⊎ (input_limit < old.passed + line_extent (line ++ now.pending)) =
+    let goes_on : (LINE_LIMIT < length line + line_end now.pending) ⊎ (INPUT_LIMIT < now.passed + line_extent now.pending)
+    → (LINE_LIMIT < line_end (line ++ now.pending)) ⊎ (INPUT_LIMIT < old.passed + line_extent (line ++ now.pending)) =
     λ either. elim either [ inl l ↦ inl (omega arith) | inr l ↦ inr (omega arith) ] in
     record {
       taken = mid.taken;

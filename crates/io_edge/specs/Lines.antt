@@ -1,18 +1,11 @@
 -- The lines of an input, and what contracts see of a reader of lines.
-use Rattle.std.specs.Prelude.{◌≡◌, ℕ, ◌+◌, ◌==◌, nat_lt, nat_le, ◌||◌, min, List, [], ◌∷◌, ◌++◌, length, take, drop, Bool, true, false, if◌then◌else◌, Option, None, Some, option_map, Result, IfOk, OnOk, IsErrOf}
+use Rattle.std.specs.Prelude.{◌≡◌, ℕ, zero, suc, ◌+◌, ◌==◌, nat_lt, ◌||◌, min, List, [], ◌∷◌, ◌++◌, length, take, drop, Bool, true, false, if◌then◌else◌, Option, None, Some, option_map, Result, IfOk, OnOk, IsErrOf}
 use Rattle.std.specs.List.{position_or_len}
 use Rattle.std.specs.Global.{Vec}
 use Rattle.std.specs.Io.KnownBytes.{Consumes, IsAtEnd, prepend_known}
+use Rattle.io_edge.specs.declared.limits.TheConstants.{INPUT_LIMIT, LINE_LIMIT}
 use Rattle.io_edge.specs.declared.lines.LineFault.{LineFault}
 use Rattle.io_edge.specs.declared.lines.LineFault.TheVariants.{TooLong}
-
--- the greatest length of a line, in bytes and without its newline
-abbrev pub line_limit : ℕ
-line_limit = 1048576
-
--- the greatest length of an input, in bytes
-abbrev pub input_limit : ℕ
-input_limit = 67108864
 
 -- ---- the first line of some bytes
 
@@ -39,7 +32,7 @@ line_extent bytes = min (line_end bytes + 1) (length bytes)
 -- its last byte or its newline lies behind the greatest length of an input.
 abbrev pub is_too_long : ℕ → List ℕ → Bool
 is_too_long at bytes =
-    nat_lt line_limit (length (first_line bytes)) || nat_lt input_limit (at + line_extent bytes)
+    nat_lt LINE_LIMIT (length (first_line bytes)) || nat_lt INPUT_LIMIT (at + line_extent bytes)
 
 -- the first line of some bytes, where there are any
 abbrev pub line_of : List ℕ → Option (List ℕ)
@@ -57,34 +50,30 @@ pub record Lines : Type 0 where
 abbrev pub line_before : List ℕ → Lines → Lines
 line_before line rest = record { lines = line ∷ rest.lines; too_long = rest.too_long }
 
--- the line that was begun, where it has a byte, as the last
-abbrev pub last_line : List ℕ → Lines
-last_line [] = record { lines = []; too_long = false }
-last_line (byte ∷ bytes) = record { lines = (byte ∷ bytes) ∷ []; too_long = false }
+abbrev pub no_lines : Lines
+no_lines = record { lines = []; too_long = false }
 
 abbrev pub stopped_by_long : Lines
 stopped_by_long = record { lines = []; too_long = true }
 
--- the lines from a line on that was begun, where `at` bytes of the input stand before what follows
-abbrev pub lines_from : ℕ → List ℕ → List ℕ → Lines
-lines_from at begun [] = last_line begun
-lines_from at begun (byte ∷ bytes) =
-    if nat_le input_limit at
+-- The first line of the bytes behind the first `at` of an input, and then the lines of what is behind it; or none where
+-- that line is too long. There are no more lines than bytes, so as many of them are enough.
+abbrev pub lines_up_to : ℕ → ℕ → List ℕ → Lines
+lines_up_to zero at bytes = no_lines
+lines_up_to (suc more) at [] = no_lines
+lines_up_to (suc more) at (byte ∷ bytes) =
+    if is_too_long at (byte ∷ bytes)
     then stopped_by_long
-    else (if byte == 10
-    then line_before begun (lines_from (at + 1) [] bytes)
-    else (if nat_le line_limit (length begun)
-    then stopped_by_long
-    else lines_from (at + 1) (begun ++ byte ∷ []) bytes))
+    else line_before (first_line (byte ∷ bytes)) (lines_up_to more (at + line_extent (byte ∷ bytes)) (behind_line (byte ∷ bytes)))
 
 -- the lines of the bytes behind the first `at` of an input
 abbrev pub lines_of : ℕ → List ℕ → Lines
-lines_of at bytes = lines_from at [] bytes
+lines_of at bytes = lines_up_to (length bytes) at bytes
 
 -- ---- a reader of lines
 
--- What contracts see of a reader: the bytes that it took and has not given, how many bytes of the input stand before
--- them, whether the source came to its end, and the fault that was answered.
+-- What contracts see of a reader: up to its first fault the bytes that it took and has not given, and how many bytes of
+-- the input stand before them; whether the source came to its end, and the fault that was answered.
 pub record ReaderState : Type 0 where
   pub pending : List ℕ
   pub passed : ℕ
@@ -98,6 +87,10 @@ behind_first reader known = record reader {
   passed = reader.passed + line_extent known;
   ended = if has_newline known then reader.ended else true;
 }
+
+-- whether the bytes that a reader took and has not given hold a newline, or a line that is too long
+abbrev pub holds_line : ReaderState → Bool
+holds_line reader = has_newline reader.pending || is_too_long reader.passed reader.pending
 
 -- the rest of the input, where it is told: what is pending, and then what the source has left if it has not ended
 abbrev pub rest_of : ReaderState → Option (List ℕ) → Option (List ℕ)
@@ -120,3 +113,10 @@ pub record TakesLine (old new : ReaderState) (left left' : Option (List ℕ)) (r
   pub at_end : OnOk result (old.ended ≡ false → new.ended ≡ true → IsAtEnd left')
   pub within : OnOk result (is_too_long old.passed (old.pending ++ taken) ≡ false)
   pub too_long : IsErrOf result TooLong → is_too_long old.passed (old.pending ++ taken) ≡ true
+
+-- Bytes were taken of the source, so that those that were taken and not given hold no newline and no line that is too long.
+pub record TakesNoLine (old : ReaderState) (left left' : Option (List ℕ)) : Type 0 where
+  pub taken : List ℕ
+  pub consumed : Consumes left left' taken
+  pub no_newline : has_newline (old.pending ++ taken) ≡ false
+  pub not_too_long : is_too_long old.passed (old.pending ++ taken) ≡ false

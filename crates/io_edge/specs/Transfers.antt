@@ -1,5 +1,5 @@
 -- What a call that reads or writes many pieces did to the bytes, where they are told.
-use Rattle.std.specs.Prelude.{◌≡◌, ℕ, ◌+◌, ◌≤◌, List, ◌++◌, length, Option, Result, IfOk, IsErrOf}
+use Rattle.std.specs.Prelude.{◌≡◌, ℕ, ◌+◌, ◌<◌, ◌≤◌, List, ◌++◌, length, Option, Result, IfOk, IsErrOf}
 use Rattle.std.specs.Global.{Vec}
 use Rattle.std.specs.Io.KnownBytes.{Appends, Consumes, IsAtEnd}
 use Rattle.io_edge.specs.declared.whole.ReadAllFault.{ReadAllFault}
@@ -20,3 +20,8 @@ pub record AppendsPrefix (old new : Option (List ℕ)) (text : List ℕ) : Type 
   pub rest : List ℕ
   pub whole : part ++ rest ≡ text
   pub appended : Appends old new part
+
+-- A part was appended that is not the whole text, which begins with it.
+pub record AppendsLess (old new : Option (List ℕ)) (text : List ℕ) : Type 0 where
+  pub prefix : AppendsPrefix old new text
+  pub more : 0 < length prefix.rest

@@ -4,6 +4,7 @@
 //! which bytes a call moved and that it gave up only because the outside failed.
 #![tactic(auto)]
 
+mod limits;
 mod lines;
 mod memory;
 mod script;
@@ -12,6 +13,7 @@ mod sure;
 mod traits;
 mod whole;
 
+pub use limits::{INPUT_LIMIT, LINE_LIMIT, READ_LIMIT};
 pub use lines::{LineFault, LineReader};
 pub use memory::{MemSink, MemSource};
 pub use standard::{StdSink, StdSource};

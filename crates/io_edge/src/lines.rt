@@ -1,8 +1,10 @@
 ghost use Rattle.std.specs.Prelude.{◌≡◌, ◌≤◌, ◌<◌, ◌+◌, ◌++◌, ◌⊎◌, [], true, false, None, Some, Err, length, nat_lt, is_some, IfSome, IfNone, IfOk, IfErr, OnOk, OnErr, IsErrOf, not};
 ghost use Rattle.std.specs.Io.KnownBytes.{Consumes, IsAtEnd};
 ghost use Rattle.io_edge.specs.Counts.{Rose};
-ghost use Rattle.io_edge.specs.Lines.{line_limit, input_limit, line_end, has_newline, first_line, behind_line, line_extent, is_too_long, rest_of, AnswersFirst, TakesLine};
+ghost use Rattle.io_edge.specs.declared.limits.TheConstants.{INPUT_LIMIT, LINE_LIMIT, READ_LIMIT};
+ghost use Rattle.io_edge.specs.Lines.{line_end, has_newline, holds_line, first_line, behind_line, line_extent, is_too_long, rest_of, AnswersFirst, TakesLine, TakesNoLine};
 
+use crate::limits::{INPUT_LIMIT, LINE_LIMIT, READ_LIMIT};
 use crate::traits::Source;
 use std::alloc::Global;
 use std::marker::Model;
@@ -17,15 +19,6 @@ pub enum LineFault {
     /// There was no memory for a line or for the reader's buffer.
     NoMemory,
 }
-
-/// How many bytes a reader asks for at once.
-const CHUNK: usize = 65_536;
-
-/// The greatest length of a line, in bytes and without its newline.
-const LINE_LIMIT: usize = 1_048_576;
-
-/// The greatest length of an input, in bytes.
-const INPUT_LIMIT: usize = 67_108_864;
 
 /// Where the first newline stands, or the length where there is none.
 fn end_of_line(bytes: &[u8]) -> usize
@@ -65,7 +58,8 @@ pub struct LineReader {
 
 impl Model for LineReader {
     ghost use Rattle.std.specs.Prelude.{◌≤◌, slice_range, length};
-    ghost use Rattle.io_edge.specs.Lines.{ReaderState, input_limit};
+    ghost use Rattle.io_edge.specs.declared.limits.TheConstants.{INPUT_LIMIT, READ_LIMIT};
+    ghost use Rattle.io_edge.specs.Lines.{ReaderState};
 
     ghost Value = { ReaderState };
 
@@ -76,7 +70,7 @@ impl Model for LineReader {
       fault = s.fault;
     } };
 
-    ghost invariant = { λ s. (s.at ≤ s.filled) × (s.filled ≤ length s.buffer.items) × (s.passed ≤ input_limit) };
+    ghost invariant = { λ s. (s.at ≤ s.filled) × (s.filled ≤ length s.buffer.items) × (length s.buffer.items ≤ READ_LIMIT) × (s.passed ≤ INPUT_LIMIT) };
 }
 
 impl LineReader {
@@ -107,6 +101,13 @@ impl LineReader {
         ensures takes { IfNone self.old.fault
             (TakesLine self.old self.new (S.left source.old) (S.left source.new) result) }
 
+        // It reads only while what was taken and not given holds no newline and no line that is too
+        // long: so no newline where the source fails, and less than one read behind a line.
+        ensures waits { holds_line self.old ≡ true → source.new ≡ source.old }
+        ensures no_line { IfNone self.old.fault (IsErrOf result LineFault.ReadFault
+            → TakesNoLine self.old (S.left source.old) (S.left source.new)) }
+        ensures few { OnOk result (length self.new.pending < READ_LIMIT) }
+
         // A fault is answered again ever after, and nothing more is taken.
         ensures fault { IfErr result (λ fault. self.new.fault ≡ Some fault) }
         ensures again { IfSome self.old.fault (λ fault.
@@ -134,6 +135,10 @@ impl LineReader {
     /// The next line, whatever fault was answered before. It records no fault.
     fn take_line<S: Source>(&mut self, source: &mut S) -> Result<Option<Vec<u8>>, LineFault>
         ensures takes { TakesLine self.old self.new (S.left source.old) (S.left source.new) result }
+        ensures waits { holds_line self.old ≡ true → source.new ≡ source.old }
+        ensures no_line { IsErrOf result LineFault.ReadFault
+            → TakesNoLine self.old (S.left source.old) (S.left source.new) }
+        ensures few { OnOk result (length self.new.pending < READ_LIMIT) }
         ensures ended { self.old.ended ≡ true → source.new ≡ source.old }
         ensures told { is_some (S.left source.new) ≡ is_some (S.left source.old) }
         ensures later { S.faults source.old ≤ S.faults source.new }
@@ -157,18 +162,19 @@ impl LineReader {
 
     /// Moves what is pending of a line to what came before of it, and says whether its newline came.
     fn move_piece(&mut self, line: &mut Vec<u8>) -> Result<bool, LineFault>
-        requires { length line.old.items ≤ line_limit }
+        requires { length line.old.items ≤ LINE_LIMIT }
         ensures newline { IfOk result (λ newline. newline ≡ has_newline self.old.pending) }
         ensures line { OnOk result (line.new.items ≡ line.old.items ++ first_line self.old.pending) }
         ensures state { OnOk result (self.new ≡ record self.old {
           pending = behind_line self.old.pending;
           passed = self.old.passed + line_extent self.old.pending;
         }) }
-        ensures short { OnOk result (length line.old.items + line_end self.old.pending ≤ line_limit) }
-        ensures within { OnOk result (self.old.passed + line_extent self.old.pending ≤ input_limit) }
+        ensures few { IfOk result (λ newline. newline ≡ true → length self.new.pending < READ_LIMIT) }
+        ensures short { OnOk result (length line.old.items + line_end self.old.pending ≤ LINE_LIMIT) }
+        ensures within { OnOk result (self.old.passed + line_extent self.old.pending ≤ INPUT_LIMIT) }
         ensures too_long { IsErrOf result LineFault.TooLong
-            → (line_limit < length line.old.items + line_end self.old.pending)
-            ⊎ (input_limit < self.old.passed + line_extent self.old.pending) }
+            → (LINE_LIMIT < length line.old.items + line_end self.old.pending)
+            ⊎ (INPUT_LIMIT < self.old.passed + line_extent self.old.pending) }
         ensures memory { ¬ IsErrOf result LineFault.ReadFault }
     {
         let piece = &self.buffer[self.at..self.filled];
@@ -208,7 +214,7 @@ impl LineReader {
         if self.ended {
             return Ok(false);
         }
-        if self.buffer.is_empty() && self.buffer.resize(CHUNK, 0).is_err() {
+        if self.buffer.is_empty() && self.buffer.resize(READ_LIMIT, 0).is_err() {
             return Err(LineFault::NoMemory);
         }
         self.at = 0;

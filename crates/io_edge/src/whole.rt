@@ -2,8 +2,9 @@ ghost use Rattle.std.specs.Prelude.{◌≡◌, ◌<◌, ◌≤◌, is_some, OnOk
 ghost use Rattle.std.specs.Io.KnownBytes.{Appends};
 ghost use Rattle.io_edge.specs.declared.whole.WriteAllFault.TheVariants.{NoMemory};
 ghost use Rattle.io_edge.specs.Counts.{Rose};
-ghost use Rattle.io_edge.specs.Transfers.{TakesUpTo, AppendsPrefix};
+ghost use Rattle.io_edge.specs.Transfers.{TakesUpTo, AppendsPrefix, AppendsLess};
 
+use crate::limits::READ_LIMIT;
 use crate::traits::{Sink, SinkFault, Source};
 use std::alloc::{AllocError, AllocFailed, Global};
 
@@ -43,9 +44,6 @@ impl<T: Drop> From<AllocFailed<T>> for WriteAllFault {
     }
 }
 
-/// How many bytes `read_all` asks for at once.
-const CHUNK: usize = 4096;
-
 /// All bytes up to the end of the input, if they are at most `limit`.
 ///
 /// After an error the source stands behind the bytes that were taken.
@@ -62,10 +60,10 @@ pub fn read_all<S: Source>(
         → Rose (S.faults source.old) (S.faults source.new) }
 {
     let mut bytes = Vec::new(alloc);
-    let mut chunk = [0u8; CHUNK];
+    let mut chunk = [0u8; READ_LIMIT];
     'reads: loop {
         // One byte past the limit shows that there is more.
-        let room = (limit + 1 - bytes.len()).min(CHUNK);
+        let room = (limit + 1 - bytes.len()).min(READ_LIMIT);
         let count = match source.read(&mut chunk[..room]) {
             Ok(0) => return Ok(bytes),
             Ok(count) => count,
@@ -84,6 +82,8 @@ pub fn read_all<S: Source>(
 pub fn write_all<K: Sink>(sink: &mut K, piece: &[u8]) -> Result<(), WriteAllFault>
     ensures ok { OnOk result (Appends (K.written sink.old) (K.written sink.new) piece.now) }
     ensures err { OnErr result (AppendsPrefix (K.written sink.old) (K.written sink.new) piece.now) }
+    ensures less { IsErrOf result WriteAllFault.WriteFault
+        → AppendsLess (K.written sink.old) (K.written sink.new) piece.now }
     ensures told { is_some (K.written sink.new) ≡ is_some (K.written sink.old) }
     ensures later { K.faults sink.old ≤ K.faults sink.new }
     ensures cause { IsErrOf result WriteAllFault.WriteFault

@@ -8,15 +8,12 @@ ghost use Rattle.node_json.specs.Documents.{IsDocument};
 
 use anyhow::{Result, anyhow, bail};
 use hashcons::Store;
-use io_edge::{StdSource, read_all};
+use io_edge::{INPUT_LIMIT, StdSource, read_all};
 use node_json::{Document, read_document};
 use std::alloc::Global;
 use std::env;
 use std::rt::Runtime;
 use std::time::Instant;
-
-/// The greatest length of an input, in bytes.
-const INPUT_LIMIT: usize = 67_108_864;
 
 fn document_of(alloc: Global, input: &mut StdSource) -> Result<Document>
     ensures { IfOk result IsDocument }

@@ -1,4 +1,5 @@
 use super::{LineFault, LineReader};
+use crate::limits::LINE_LIMIT;
 use crate::memory::MemSource;
 use crate::sure::SureSource;
 use crate::traits::Source;
@@ -44,14 +45,14 @@ fn answers_a_fault_again(rt: HostRuntime) -> Result<(), Fail> {
 #[test]
 fn bounds_a_line(rt: HostRuntime) -> Result<(), Fail> {
     let alloc = rt.alloc();
-    let mut source = SureSource::new(vec![in alloc; b'a'; 1_048_576]?);
+    let mut source = SureSource::new(vec![in alloc; b'a'; LINE_LIMIT]?);
     let mut reader = LineReader::new(alloc);
     assert_eq!(rt;
         reader.next(&mut source)?.map(|line| line.len()),
-        Some(1_048_576)
+        Some(LINE_LIMIT)
     );
     assert!(rt; reader.next(&mut source)?.is_none());
-    let mut source = SureSource::new(vec![in alloc; b'a'; 1_048_577]?);
+    let mut source = SureSource::new(vec![in alloc; b'a'; LINE_LIMIT + 1]?);
     let mut reader = LineReader::new(alloc);
     assert_eq!(rt; reader.next(&mut source).err(), Some(LineFault::TooLong));
     assert_eq!(rt; reader.next(&mut source).err(), Some(LineFault::TooLong));
