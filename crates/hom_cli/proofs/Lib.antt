@@ -1,3 +1,4 @@
+mod Answerings
 mod Looks
 mod Lines
 mod Replays

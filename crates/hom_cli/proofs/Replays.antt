@@ -1,35 +1,50 @@
 -- The answers to lines, and what a replay makes of an input.
-use Rattle.std.proofs.Common.{◌≡◌, ℕ, ◌+◌, ◌<◌, ◌⊎◌, inl, inr, List, [], ◌++◌, length, get_or, drop, map, Bool, true, false, Option, Some, None, IfSome, Result, Ok, refl, sym, ap, ◌∙◌, subst}
+use Rattle.std.proofs.Common.{◌≡◌, ℕ, List, [], ◌∷◌, ◌++◌, append_assoc, append-nil, Bool, true, false, Option, Some, None, IfSome, Result, Ok, refl, sym, ap, ◌∙◌, subst}
 use Rattle.std.specs.Prelude.{if◌then◌else◌}
-use Rattle.std.specs.Global.{Vec}
 use Rattle.std.specs.List.{list_all}
-use Rattle.std.proofs.KnownBytes.{Keeps-refl}
-use Rattle.std.proofs.lemmas.List.{at_drop_more}
+use Rattle.std.proofs.lemmas.Grind.{flat_map-append}
 use Rattle.node_json.specs.declared.fault.FormFault.{FormFault}
 use Rattle.workspace_json.specs.declared.command.Command.{Command}
 use Rattle.workspace_json.specs.declared.reply.Reply.{Reply}
 use Rattle.workspace_json.specs.Commands.{exact_command}
 use Rattle.workspace_json.specs.Sessions.{Session, Stepped, new_session, step}
 use Rattle.io_edge.specs.Lines.{Lines, lines_of}
-use Rattle.io_edge.proofs.Inputs.{input_from, input_from_is}
-use Rattle.io_edge.proofs.Parts.{not_begun}
 use Rattle.hom_cli.specs.declared.status.Status.{Status}
 use Rattle.hom_cli.specs.declared.status.Status.TheVariants as status
-use Rattle.hom_cli.specs.Full.{Answer, Reads, Run, Writes, answered, answered_to, answers_from, answering, is_good_answer, is_yes, replay_of, replay_run, replays}
-use Rattle.hom_cli.specs.Taken.{AreTaken}
-use Rattle.hom_cli.proofs.Lines.{reply_good}
+use Rattle.hom_cli.specs.Full.{Answer, answer_line, Reads, Run, Writes, answered, answered_to, answers_from, answering, is_good_answer, is_yes, replay_of, replay_run, replays}
+use Rattle.hom_cli.proofs.Lines.{answers_text, reply_good}
+use Rattle.hom_cli.proofs.Takings.{AreTaken, lines_before}
 
--- the answers to lines that a session takes
-abbrev pub line_answers : Session → List (Vec ℕ) → List Answer
-line_answers s lines = answers_from s (map (λ bytes. bytes.items) lines)
+-- ---- the answers to lines
 
-pub next_answers : (s s' : Session) (lines : List (Vec ℕ)) (i : ℕ) (bytes : Vec ℕ) → i < length lines → bytes ≡ get_or lines i bytes
-    → (text : List ℕ) → text ≡ bytes.items → s' ≡ (answered s text).session
-    → line_answers s (drop i lines) ≡ (answered s text).answers ++ line_answers s' (drop (i + 1) lines)
-next_answers s s' lines i bytes within is text same becomes =
-    at_drop_more (line_answers s) lines i bytes within
-    ∙ ap (λ (l : List ℕ). (answered s l).answers ++ line_answers (answered s l).session (drop (i + 1) lines)) (ap (λ (b : Vec ℕ). b.items) (sym is) ∙ sym same)
-    ∙ ap (λ (t : Session). (answered s text).answers ++ line_answers t (drop (i + 1) lines)) (sym becomes)
+-- the session behind lines
+abbrev pub session_after : Session → List (List ℕ) → Session
+session_after s [] = s
+session_after s (bytes ∷ lines) = session_after (answered s bytes).session lines
+
+answers_from-append : (s : Session) (lines more : List (List ℕ)) → answers_from s (lines ++ more) ≡ answers_from s lines ++ answers_from (session_after s lines) more
+answers_from-append s [] more = refl
+answers_from-append s (bytes ∷ lines) more =
+    ap (λ (rest : List Answer). (answered s bytes).answers ++ rest) (answers_from-append (answered s bytes).session lines more)
+    ∙ sym (append_assoc (answered s bytes).answers (answers_from (answered s bytes).session lines) (answers_from (session_after (answered s bytes).session lines) more))
+
+pub session_after-push : (s : Session) (lines : List (List ℕ)) (bytes : List ℕ) → session_after s (lines ++ bytes ∷ []) ≡ (answered (session_after s lines) bytes).session
+session_after-push s [] bytes = refl
+session_after-push s (line ∷ lines) bytes = session_after-push (answered s line).session lines bytes
+
+pub answers_from-push : (s : Session) (lines : List (List ℕ)) (bytes : List ℕ)
+    → answers_from s (lines ++ bytes ∷ []) ≡ answers_from s lines ++ (answered (session_after s lines) bytes).answers
+answers_from-push s lines bytes =
+    answers_from-append s lines (bytes ∷ [])
+    ∙ ap (λ (rest : List Answer). answers_from s lines ++ rest) (append-nil (answered (session_after s lines) bytes).answers)
+
+-- the text of a run that begins with lines
+pub text_of_front : (lines : List (List ℕ)) (rest : Lines)
+    → (replay_of (lines_before lines rest)).text
+    ≡ answers_text (answers_from new_session lines) ++ answers_text (answers_from (session_after new_session lines) rest.lines)
+text_of_front lines rest =
+    ap answers_text (answers_from-append new_session lines rest.lines)
+    ∙ flat_map-append answer_line (answers_from new_session lines) (answers_from (session_after new_session lines) rest.lines)
 
 -- ---- the answer to a command
 
@@ -54,14 +69,6 @@ pub writes_replay : (old new : Option (List ℕ)) (lines : Lines) → AreTaken o
 writes_replay old new lines t s before after wrote =
     let input = input_of old new lines t in
     (input.0, input.1, subst (λ (r : Run). Writes r s before after) input.2 wrote)
-
--- no line was answered
-pub writes_nothing : (left old : Option (List ℕ)) (s : Status) → (s ≡ status.ReadFault) ⊎ (s ≡ status.NoMemory)
-    → (bytes : List ℕ) × IfSome left (λ l. bytes ≡ l) × Writes (replay_run bytes) s old old
-writes_nothing left old s (inl e) =
-    (input_from left [], input_from_is left [], subst (λ (t : Status). Writes (replay_run (input_from left [])) t old old) (sym e) (Keeps-refl old))
-writes_nothing left old s (inr e) =
-    (input_from left [], input_from_is left [], subst (λ (t : Status). Writes (replay_run (input_from left [])) t old old) (sym e) (not_begun old _))
 
 -- what the status tells of the lines
 not_long : (b : Bool) (s t : Status) → s ≡ (if b then status.TooLong else t) → (s ≡ status.TooLong → ⊥) → b ≡ false

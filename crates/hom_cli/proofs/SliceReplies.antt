@@ -10,12 +10,14 @@ use Rattle.diagram_terms.specs.Slices.{slice_along}
 use Rattle.diagram_terms.specs.Tree.{Tree}
 use Rattle.node_json.specs.declared.document.DiagramEntry.{DiagramEntry}
 use Rattle.node_json.specs.declared.document.Document.{Document}
+use Rattle.workspace_json.specs.declared.refusal.Refusal.TheVariants.{Unknown}
 use Rattle.workspace_json.specs.declared.reply.Reply.{Reply}
 use Rattle.node_json.specs.Documents.{IsDocument, IsDiagramPlace}
 use Rattle.workspace_json.specs.Paths.{path_in}
 use Rattle.workspace_json.specs.Replies.{text_of_reply}
+use Rattle.workspace_json.specs.Steps.{◌>>=◌, or_refuse, slice_found}
 use Rattle.hom_cli.specs.declared.status.Status.TheVariants as status
-use Rattle.hom_cli.specs.Full.{Run, is_yes, line, replying, root_of, slice_found, slice_question, slice_reply, slice_under}
+use Rattle.hom_cli.specs.Full.{Run, is_yes, line, replying, root_of, reply_of, slice_question, slice_reply}
 use Rattle.hom_cli.specs.Modes.{question_run}
 
 -- ---- the diagram of a name
@@ -43,10 +45,12 @@ root_place document form name found root is some = found_place document.nodes na
 
 module _ (document : Document) (name : List ℕ) (path : List Height) (root : ℕ) (t : Tree) (found : Option ℕ)
     (is : found ≡ root_of name document.diagrams) (some : found ≡ Some root) (tree : t ≡ tree_at document.nodes root) where
-  pub slice_of : (outcome : Result Tree ℕ) → slice_along t path ≡ outcome → slice_found outcome ≡ slice_reply document name path
+  pub slice_of : (outcome : Result Tree ℕ) → slice_along t path ≡ outcome → reply_of (slice_found outcome) ≡ slice_reply document name path
   slice_of outcome e =
-      ap slice_found (sym e ∙ ap (λ (u : Tree). slice_along u path) tree)
-      ∙ ap (slice_under document.nodes name path) (sym some ∙ is)
+      ap (λ (o : Result Tree ℕ). reply_of (slice_found o)) (sym e ∙ ap (λ (u : Tree). slice_along u path) tree)
+      ∙ ap
+      (λ (place : Option ℕ). reply_of (or_refuse (Unknown name) place >>= λ i. slice_found (slice_along (tree_at document.nodes i) path)))
+      (sym some ∙ is)
 
 -- a reply that is as printed is as said
 pub as_said : {E : Type 0} (result : Result Reply E) (printed said : Reply) → printed ≡ said

@@ -1,7 +1,8 @@
 -- The whole text and the status of a run, and what a run may leave of them where it stops short.
 use Rattle.std.specs.Prelude.{◌≡◌, ◌==◌, ◌||◌, ℕ, ◌+◌, List, [], ◌∷◌, ◌++◌, length, map, codes, Bool, true, false, is_none, nat_lt, if◌then◌else◌, Result, Ok, Err, Option, Some, None, option_map, bytes_eq}
 use Rattle.std.specs.List.{flat_map, list_all, find}
-use Rattle.std.specs.Io.KnownBytes.{Appends, Keeps, Consumes, IsAtEnd}
+use Rattle.std.specs.Io.KnownBytes.{Appends, Consumes, IsAtEnd}
+use Rattle.io_edge.specs.declared.limits.TheConstants.{INPUT_LIMIT}
 use Rattle.io_edge.specs.Lines.{Lines, lines_of}
 use Rattle.io_edge.specs.Transfers.{AppendsPrefix}
 use Rattle.diagram_terms.specs.declared.node.Node.{Node}
@@ -17,15 +18,16 @@ use Rattle.node_json.specs.declared.document.DiagramEntry.{DiagramEntry}
 use Rattle.node_json.specs.declared.document.Document.{Document}
 use Rattle.node_json.specs.declared.fault.FormFault.{FormFault}
 use Rattle.workspace_json.specs.declared.reply.Reply.{Reply}
-use Rattle.workspace_json.specs.declared.refusal.Refusal.TheVariants.{Unknown, NoHeight}
+use Rattle.workspace_json.specs.declared.refusal.Refusal.{Refusal}
+use Rattle.workspace_json.specs.declared.refusal.Refusal.TheVariants.{Unknown}
 use Rattle.workspace_json.specs.declared.command.Command.{Command}
-use Rattle.workspace_json.specs.declared.reply.Reply.TheVariants.{Look, Refused}
+use Rattle.workspace_json.specs.declared.reply.Reply.TheVariants.{Look, Refused, Generator, Stored, Named, Slice, Equal, Stats, Save, Undo, Redo}
 use Rattle.workspace_json.specs.Commands.{exact_command}
 use Rattle.workspace_json.specs.Paths.{path_in}
 use Rattle.node_json.specs.Reading.{exact_document}
 use Rattle.workspace_json.specs.Replies.{text_of_reply, text_of_fault}
 use Rattle.workspace_json.specs.Sessions.{Session, new_session, step}
-use Rattle.workspace_json.specs.Steps.{printed}
+use Rattle.workspace_json.specs.Steps.{◌>>=◌, or_refuse, slice_found}
 use Rattle.hom_cli.specs.declared.status.Status.{Status}
 use Rattle.hom_cli.specs.declared.status.Status.TheVariants as status
 
@@ -36,10 +38,6 @@ pub record Run : Type 0 where
 -- a text and a newline
 abbrev pub line : List ℕ → List ℕ
 line text = text ++ 10 ∷ []
-
--- the greatest length of a document, in bytes
-abbrev pub input_limit : ℕ
-input_limit = 67108864
 
 -- what may be asked of a document: to look at each of its diagrams, or to give the slice of one of them
 pub data Question : Type 0 where
@@ -74,7 +72,15 @@ pub data Answer : Type 0 where
 abbrev pub is_yes : Reply → Bool
 is_yes (Look dim length name at) = is_none at
 is_yes (Refused refusal) = false
-is_yes other = true
+is_yes (Generator dim name number) = true
+is_yes (Stored dim length name word) = true
+is_yes (Named name word) = true
+is_yes (Slice nodes root) = true
+is_yes (Equal value) = true
+is_yes (Stats arrows diagrams generators maps named) = true
+is_yes (Save document) = true
+is_yes Undo = true
+is_yes Redo = true
 
 abbrev pub is_good_answer : Answer → Bool
 is_good_answer (replied reply) = is_yes reply
@@ -107,18 +113,15 @@ look_reply nodes entry = tree_reply entry.name (tree_at nodes entry.root)
 abbrev pub root_of : List ℕ → List DiagramEntry → Option ℕ
 root_of name entries = option_map (λ e. e.root) (find (λ e. bytes_eq e.name name) entries)
 
--- what `slice` says of the slice that was found, or of the first step that names no height
-abbrev pub slice_found : Result Tree ℕ → Reply
-slice_found (Ok t) = printed t
-slice_found (Err step) = Refused (NoHeight step)
+-- a reply, or a refusal as one
+abbrev pub reply_of : Result Reply Refusal → Reply
+reply_of (Ok reply) = reply
+reply_of (Err refusal) = Refused refusal
 
--- what it says of the diagram of this name, if there is one
-abbrev pub slice_under : List Node → List ℕ → List Height → Option ℕ → Reply
-slice_under nodes name path None = Refused (Unknown name)
-slice_under nodes name path (Some root) = slice_found (slice_along (tree_at nodes root) path)
-
+-- what `slice` says of the diagram of this name, as a session says it of a term
 abbrev pub slice_reply : Document → List ℕ → List Height → Reply
-slice_reply document name path = slice_under document.nodes name path (root_of name document.diagrams)
+slice_reply document name path = reply_of (
+    or_refuse (Unknown name) (root_of name document.diagrams) >>= λ root. slice_found (slice_along (tree_at document.nodes root) path))
 
 -- the replies to a question on a document
 abbrev pub replies : Question → Document → List Reply
@@ -182,17 +185,17 @@ replay_run bytes = replay_of (lines_of 0 bytes)
 abbrev pub on_input : Option Mode → List ℕ → Run
 on_input None bytes = record { text = []; status = status.Usage }
 on_input (Some (asks question)) bytes =
-    if nat_lt input_limit (length bytes) then record { text = []; status = status.TooLong } else on_document question (exact_document bytes)
+    if nat_lt INPUT_LIMIT (length bytes) then record { text = []; status = status.TooLong } else on_document question (exact_document bytes)
 on_input (Some replays) bytes = replay_run bytes
 
 -- what the program writes and answers on these words and this input
 unfoldable pub full : List (List ℕ) → List ℕ → Run
 full words bytes = on_input (mode_of words) bytes
 
--- What was written and which status: those of the full run; nothing where reading failed; or a part of the text, from
--- its start on, where writing failed or memory ran out.
+-- What was written and which status: those of the full run; or a part of the text, from its start on, where reading or
+-- writing failed or memory ran out.
 abbrev pub Writes : Run → Status → Option (List ℕ) → Option (List ℕ) → Type 0
-Writes run status.ReadFault old new = Keeps old new
+Writes run status.ReadFault old new = AppendsPrefix old new run.text
 Writes run status.WriteFault old new = AppendsPrefix old new run.text
 Writes run status.NoMemory old new = AppendsPrefix old new run.text
 Writes run s old new = (s ≡ run.status) × Appends old new run.text
@@ -201,7 +204,7 @@ Writes run s old new = (s ≡ run.status) × Appends old new run.text
 -- too long.
 abbrev pub IsTooMuch : Option Mode → List ℕ → Type 0
 IsTooMuch (Some replays) taken = (lines_of 0 taken).too_long ≡ true
-IsTooMuch mode taken = length taken ≡ input_limit + 1
+IsTooMuch mode taken = length taken ≡ INPUT_LIMIT + 1
 
 -- What was read: all of the input, or too much.
 abbrev pub Reads : Option Mode → Status → Option (List ℕ) → Option (List ℕ) → Type 0
@@ -209,4 +212,7 @@ Reads mode status.Done old new = IsAtEnd new
 Reads mode status.Refused old new = IsAtEnd new
 Reads mode status.Form old new = IsAtEnd new
 Reads mode status.TooLong old new = (taken : List ℕ) × Consumes old new taken × IsTooMuch mode taken
-Reads mode s old new = Unit {0}
+Reads mode status.Usage old new = Unit {0}
+Reads mode status.ReadFault old new = Unit {0}
+Reads mode status.WriteFault old new = Unit {0}
+Reads mode status.NoMemory old new = Unit {0}

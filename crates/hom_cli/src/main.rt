@@ -10,7 +10,6 @@ mod program;
 mod replay;
 mod slice;
 mod status;
-mod taking;
 mod words;
 mod writing;
 

@@ -1,17 +1,16 @@
 ghost use Rattle.std.specs.Prelude.{◌≡◌, ◌≢◌, ◌≤◌, ◌↔◌, List, ℕ, IfSome, IsSome, None, map, string_bytes};
+ghost use Rattle.std.specs.Io.KnownBytes.{Keeps};
 ghost use Rattle.io_edge.specs.Counts.{Rose};
 ghost use Rattle.hom_cli.specs.Full.{full, mode_of, on_input, Writes, Reads};
 ghost use Rattle.hom_cli.specs.Modes.{mode_in, question_in};
+ghost use Rattle.hom_cli.specs.Taken.{AfterReadFault, AfterWriteFault};
 
 use crate::answer::answer;
 use crate::replay::replay;
 use crate::status::Status;
 use crate::words::{Asked, Query, asked_of};
-use io_edge::{ReadAllFault, Sink, Source, read_all};
+use io_edge::{INPUT_LIMIT, ReadAllFault, Sink, Source, read_all};
 use std::alloc::Global;
-
-/// The greatest length of a document, in bytes.
-const INPUT_LIMIT: usize = 67_108_864;
 
 /// What a document says to a query, with the bytes of this input as the document.
 fn ask<S: Source, K: Sink>(alloc: Global, query: Query, input: &mut S, output: &mut K) -> Status
@@ -19,6 +18,7 @@ fn ask<S: Source, K: Sink>(alloc: Global, query: Query, input: &mut S, output: &
     ensures writes { (bytes : List ℕ) × IfSome (S.left input.old) (λ left. bytes ≡ left)
         × Writes (on_input (mode_in (Asked.Document query.entry)) bytes) result (K.written output.old) (K.written output.new) }
     ensures reads { Reads (mode_in (Asked.Document query.entry)) result (S.left input.old) (S.left input.new) }
+    ensures nothing { result ≡ Status.ReadFault → Keeps (K.written output.old) (K.written output.new) }
     ensures read_fault { result ≡ Status.ReadFault → Rose (S.faults input.old) (S.faults input.new) }
     ensures write_fault { result ≡ Status.WriteFault → Rose (K.faults output.old) (K.faults output.new) }
     ensures later { (S.faults input.old ≤ S.faults input.new) × (K.faults output.old ≤ K.faults output.new) }
@@ -44,6 +44,14 @@ pub fn run<S: Source, K: Sink>(
     ensures writes { (bytes : List ℕ) × IfSome (S.left input.old) (λ left. bytes ≡ left)
         × Writes (full (map string_bytes words.now) bytes) result (K.written output.old) (K.written output.new) }
     ensures reads { Reads (mode_of (map string_bytes words.now)) result (S.left input.old) (S.left input.new) }
+
+    // Where reading fails, the answers to the lines of a session that were taken whole were written,
+    // and nothing else, and to a document nothing. Where writing fails, little of a session was taken
+    // behind the line whose answer is the first that was not written whole.
+    ensures after_read_fault { result ≡ Status.ReadFault → AfterReadFault (mode_of (map string_bytes words.now))
+        (S.left input.old) (S.left input.new) (K.written output.old) (K.written output.new) }
+    ensures after_write_fault { result ≡ Status.WriteFault → AfterWriteFault (mode_of (map string_bytes words.now))
+        (S.left input.old) (S.left input.new) (K.written output.old) (K.written output.new) }
 
     // Words of no form: nothing is read or written.
     ensures usage { (result ≡ Status.Usage) ↔ (mode_of (map string_bytes words.now) ≡ None) }

@@ -1,16 +1,15 @@
-ghost use Rattle.std.specs.Prelude.{◌≡◌, ◌≢◌, ◌≤◌, ℕ, List, Some, IfOk, IfSome, IsErrOf, OnErr, OnOk};
+ghost use Rattle.std.specs.Prelude.{◌≡◌, ◌≢◌, ◌≤◌, ℕ, List, Some, IfOk, IfSome, IsErrOf, OnErr, OnOk, if◌then◌else◌};
 ghost use Rattle.std.specs.Io.KnownBytes.{Appends};
 ghost use Rattle.std.specs.List.{list_all};
 ghost use Rattle.io_edge.specs.Counts.{Rose};
-ghost use Rattle.io_edge.specs.Transfers.{AppendsPrefix};
+ghost use Rattle.io_edge.specs.Transfers.{AppendsLess, AppendsPrefix};
 ghost use Rattle.workspace_json.specs.Commands.{exact_command};
-ghost use Rattle.hom_cli.specs.Full.{Reads, Writes, is_good_answer, answered, answered_to, answering, is_blank as is_blank_lem, line, replay_of, replay_run, replays};
-ghost use Rattle.hom_cli.specs.Taken.{lines_in};
+ghost use Rattle.hom_cli.specs.Full.{Reads, Writes, is_good_answer, answered, answered_to, answering, is_blank as is_blank_lem, line, replay_run, replays};
+ghost use Rattle.hom_cli.specs.Taken.{AnswersWholeLines, StopsAtLine};
 
 use crate::status::Status;
-use crate::taking::{TakenLines, take_lines};
-use crate::writing::{is_yes, status_of, write_line};
-use io_edge::{Sink, Source, WriteAllFault};
+use crate::writing::{is_yes, write_line};
+use io_edge::{LineFault, LineReader, Sink, Source, WriteAllFault};
 use session_undo::Session;
 use std::alloc::{AllocError, Global};
 use workspace_json::{FormFault, form_text, read_command, reply_text};
@@ -62,6 +61,8 @@ fn write_answer<K: Sink>(
         (answering (answered session.old.session bytes.now).answers).text) }
     ensures err { OnErr result (AppendsPrefix (K.written output.old) (K.written output.new)
         (answering (answered session.old.session bytes.now).answers).text) }
+    ensures less { IsErrOf result WriteAllFault.WriteFault → AppendsLess (K.written output.old) (K.written output.new)
+        (answering (answered session.old.session bytes.now).answers).text }
     ensures later { K.faults output.old ≤ K.faults output.new }
     ensures cause { IsErrOf result WriteAllFault.WriteFault
         → Rose (K.faults output.old) (K.faults output.new) }
@@ -74,56 +75,43 @@ fn write_answer<K: Sink>(
     Ok(is_good)
 }
 
-/// Writes the answers to lines, which an empty session takes one after the other.
-fn write_answers<K: Sink>(
-    alloc: Global,
-    taken: &TakenLines,
-    output: &mut K,
-) -> Result<Status, WriteAllFault>
-    ensures ok { IfOk result (λ status. status ≡ (replay_of (lines_in taken.now)).status) }
-    ensures wrote { OnOk result
-        (Appends (K.written output.old) (K.written output.new) (replay_of (lines_in taken.now)).text) }
-    ensures err { OnErr result
-        (AppendsPrefix (K.written output.old) (K.written output.new) (replay_of (lines_in taken.now)).text) }
-    ensures later { K.faults output.old ≤ K.faults output.new }
-    ensures cause { IsErrOf result WriteAllFault.WriteFault
-        → Rose (K.faults output.old) (K.faults output.new) }
+/// The status of a session whose lines were all answered.
+fn status_after(good: bool) -> Status
+    ensures status { result ≡ (if good then Status.Done else Status.Refused) }
+    ensures others { (result ≢ Status.ReadFault) × (result ≢ Status.WriteFault) × (result ≢ Status.Usage) }
 {
-    let mut session = Session::new(alloc);
-    let mut status = Status::Done;
-    for bytes in &taken.lines {
-        if !write_answer(alloc, &mut session, bytes, output)? {
-            status = Status::Refused;
-        }
-    }
-    if taken.too_long {
-        status = Status::TooLong;
-    }
-    Ok(status)
+    if good { Status::Done } else { Status::Refused }
 }
 
-/// Answers lines in their order, and says how that ended.
-fn answer_lines<K: Sink>(alloc: Global, taken: &TakenLines, output: &mut K) -> Status
-    ensures writes { Writes (replay_of (lines_in taken.now)) result (K.written output.old) (K.written output.new) }
-    ensures later { K.faults output.old ≤ K.faults output.new }
-    ensures cause { result ≡ Status.WriteFault → Rose (K.faults output.old) (K.faults output.new) }
-    ensures others { (result ≢ Status.ReadFault) × (result ≢ Status.Usage) }
-{
-    status_of(write_answers(alloc, taken, output))
-}
-
-/// Takes all lines of the input, and then answers each in their order.
+/// Answers each line of the input in its order, before it takes more of it than one read.
 pub(crate) fn replay<S: Source, K: Sink>(alloc: Global, input: &mut S, output: &mut K) -> Status
     ensures writes { (bytes : List ℕ) × IfSome (S.left input.old) (λ left. bytes ≡ left)
         × Writes (replay_run bytes) result (K.written output.old) (K.written output.new) }
     ensures reads { Reads (Some replays) result (S.left input.old) (S.left input.new) }
+    ensures after_read_fault { result ≡ Status.ReadFault → AnswersWholeLines
+        (S.left input.old) (S.left input.new) (K.written output.old) (K.written output.new) }
+    ensures after_write_fault { result ≡ Status.WriteFault → StopsAtLine
+        (S.left input.old) (S.left input.new) (K.written output.old) (K.written output.new) }
     ensures read_fault { result ≡ Status.ReadFault → Rose (S.faults input.old) (S.faults input.new) }
     ensures write_fault { result ≡ Status.WriteFault → Rose (K.faults output.old) (K.faults output.new) }
     ensures later { (S.faults input.old ≤ S.faults input.new) × (K.faults output.old ≤ K.faults output.new) }
     ensures others { result ≢ Status.Usage }
 {
-    match take_lines(alloc, input) {
-        Ok(taken) => answer_lines(alloc, &taken, output),
-        Err(status) => status,
+    let mut reader = LineReader::new(alloc);
+    let mut session = Session::new(alloc);
+    let mut good = true;
+    'lines: loop {
+        let line = match reader.next(input) {
+            Ok(Some(line)) => line,
+            Ok(None) => return status_after(good),
+            Err(LineFault::TooLong) => return Status::TooLong,
+            Err(LineFault::ReadFault) => return Status::ReadFault,
+            Err(LineFault::NoMemory) => return Status::NoMemory,
+        };
+        match write_answer(alloc, &mut session, &line, output) {
+            Ok(is_good) => good = good && is_good,
+            Err(WriteAllFault::WriteFault) => return Status::WriteFault,
+            Err(WriteAllFault::NoMemory) => return Status::NoMemory,
+        }
     }
 }

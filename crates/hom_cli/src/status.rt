@@ -18,7 +18,7 @@ pub enum Status {
     WriteFault,
     /// Memory ran out.
     NoMemory,
-    /// The document has more than 67,108,864 bytes, or a line of a session is too long.
+    /// The document is longer than an input may be, or a line of a session is too long.
     TooLong,
 }
 

@@ -1,3 +1,5 @@
+ghost use Rattle.std.specs.Prelude.{◌<◌};
+
 use crate::program::run;
 use crate::status::Status;
 use io_edge::{MemSink, MemSource, SureSink, SureSource};
@@ -5,6 +7,8 @@ use std::alloc::{AllocError, Global};
 use std::process::Abort;
 use std::test::Fail;
 
+mod faults;
+mod hostile;
 mod replays;
 
 const ONE_ARROW: &str =
@@ -86,19 +90,28 @@ const LOOKS: [Case; 15] = [
     ("Look", ONE_ARROW, Status::Usage, ""),
 ];
 
+/// Runs on an input without faults.
+fn check_run(
+    rt: &(impl Abort + AllocGlobal),
+    line: &str,
+    bytes: &[u8],
+    status: Status,
+    want: &str,
+) -> Result<(), Fail> {
+    let alloc = rt.alloc();
+    let words = words_of(alloc, line)?;
+    let mut input = SureSource::new(Vec::from_slice(alloc, bytes)?);
+    let mut output = SureSink::new(alloc);
+    let answer = run(alloc, words.as_slice(), &mut input, &mut output);
+    assert_eq!(rt; answer, status, "{line} {want}");
+    assert!(rt; output.written() == want.as_bytes(), "{line} {want}");
+    Ok(())
+}
+
 /// Runs on each case.
 fn check_runs(rt: &(impl Abort + AllocGlobal), cases: &[Case]) -> Result<(), Fail> {
-    let alloc = rt.alloc();
     for (line, text, status, want) in cases {
-        let words = words_of(alloc, line)?;
-        let mut input = SureSource::new(Vec::from_slice(alloc, text.as_bytes())?);
-        let mut output = SureSink::new(alloc);
-        assert_eq!(rt;
-            run(alloc, words.as_slice(), &mut input, &mut output),
-            *status,
-            "{line} {text}"
-        );
-        assert!(rt; output.written() == want.as_bytes(), "{line} {text}");
+        check_run(rt, line, text.as_bytes(), *status, want)?;
     }
     Ok(())
 }
@@ -156,22 +169,29 @@ fn slices_diagrams(rt: HostRuntime) -> Result<(), Fail> {
     check_runs(&rt, &SLICES)
 }
 
-/// A source that gives 7 bytes a call and fails at `read_fails`, and a sink that takes 16 bytes a
-/// call and fails at `write_fails`.
+/// How many bytes a source or a sink takes in a call, at least one, and which calls fail.
+#[derive(Clone, Copy)]
+struct Calls<'c> {
+    most: usize,
+    fails: &'c [usize],
+    ghost some: { 0 < most },
+}
+
+/// A run over a source and a sink of such calls.
 fn run_on(
     alloc: Global,
     word: &str,
-    text: &str,
-    read_fails: usize,
-    write_fails: usize,
+    bytes: &[u8],
+    reads: Calls<'_>,
+    writes: Calls<'_>,
 ) -> Result<(Status, Vec<u8>), AllocError> {
     let words = words_of(alloc, word)?;
     let mut input = MemSource::new(
-        Vec::from_slice(alloc, text.as_bytes())?,
-        7,
-        vec![in alloc; read_fails]?,
+        Vec::from_slice(alloc, bytes)?,
+        reads.most,
+        Vec::from_slice(alloc, reads.fails)?,
     );
-    let mut output = MemSink::new(alloc, 16, vec![in alloc; write_fails]?);
+    let mut output = MemSink::new(alloc, writes.most, Vec::from_slice(alloc, writes.fails)?);
     let status = run(alloc, words.as_slice(), &mut input, &mut output);
     Ok((status, Vec::from_slice(alloc, output.written())?))
 }
@@ -195,7 +215,15 @@ fn stops_short(rt: HostRuntime) -> Result<(), Fail> {
         (lines, 0, 1000, Status::ReadFault, 0),
     ];
     for ((word, text, whole), read_fails, write_fails, status, count) in cases {
-        let (answer, written) = run_on(alloc, word, text, read_fails, write_fails)?;
+        let reads = Calls {
+            most: 7,
+            fails: &[read_fails],
+        };
+        let writes = Calls {
+            most: 16,
+            fails: &[write_fails],
+        };
+        let (answer, written) = run_on(alloc, word, text.as_bytes(), reads, writes)?;
         assert_eq!(rt; answer, status, "{word} {read_fails} {write_fails}");
         assert_eq!(rt; written.len(), count, "{word} {read_fails} {write_fails}");
         assert!(rt;
@@ -206,22 +234,34 @@ fn stops_short(rt: HostRuntime) -> Result<(), Fail> {
     Ok(())
 }
 
+/// The newline of the first line is the byte of call 29.
+const POINT_AND_UNDO: &str = "{\"do\":\"generator\",\"name\":\"x\"}\n{\"do\":\"undo\"}";
+
 #[test]
-fn takes_64_mebibytes(rt: HostRuntime) -> Result<(), Fail> {
-    let alloc = rt.alloc();
-    let words = words_of(alloc, "look")?;
-    let cases = [
-        (67_108_864usize, Status::Form, "{\"refused\":\"NotJson\"}\n"),
-        (67_108_865, Status::TooLong, ""),
+fn answers_a_line_before_the_next(rt: HostRuntime) -> Result<(), Fail> {
+    let reply = "{\"dim\":0,\"name\":\"x\",\"number\":0,\"ok\":\"generator\"}\n";
+    let cases: [(&[usize], Status, &str); 2] = [
+        (&[], Status::ReadFault, reply),
+        (&[0], Status::WriteFault, ""),
     ];
-    for (length, status, want) in cases {
-        let mut input = SureSource::new(vec![in alloc; b' '; length]?);
-        let mut output = SureSink::new(alloc);
-        assert_eq!(rt;
-            run(alloc, words.as_slice(), &mut input, &mut output),
-            status
-        );
-        assert!(rt; output.written() == want.as_bytes());
+    for (write_fails, status, want) in cases {
+        let reads = Calls {
+            most: 1,
+            fails: &[30],
+        };
+        let writes = Calls {
+            most: 64,
+            fails: write_fails,
+        };
+        let (answer, written) = run_on(
+            rt.alloc(),
+            "replay",
+            POINT_AND_UNDO.as_bytes(),
+            reads,
+            writes,
+        )?;
+        assert_eq!(rt; answer, status);
+        assert!(rt; written.as_slice() == want.as_bytes());
     }
     Ok(())
 }

@@ -1,7 +1,7 @@
 ghost use Rattle.std.specs.Prelude.{◌≡◌, ◌≢◌, ◌≤◌, OnOk, OnErr, IsErrOf, IfOk};
 ghost use Rattle.std.specs.Io.KnownBytes.{Appends};
 ghost use Rattle.io_edge.specs.Counts.{Rose};
-ghost use Rattle.io_edge.specs.Transfers.{AppendsPrefix};
+ghost use Rattle.io_edge.specs.Transfers.{AppendsLess, AppendsPrefix};
 ghost use Rattle.workspace_json.specs.Replies.{text_of_fault};
 ghost use Rattle.hom_cli.specs.Full.{is_yes as is_yes_lem, line};
 
@@ -34,6 +34,8 @@ pub(crate) fn write_line<K: Sink>(output: &mut K, text: Vec<u8>) -> Result<(), W
     ensures ok { OnOk result (Appends (K.written output.old) (K.written output.new) (line text.items)) }
     ensures err { OnErr result
         (AppendsPrefix (K.written output.old) (K.written output.new) (line text.items)) }
+    ensures less { IsErrOf result WriteAllFault.WriteFault
+        → AppendsLess (K.written output.old) (K.written output.new) (line text.items) }
     ensures later { K.faults output.old ≤ K.faults output.new }
     ensures cause { IsErrOf result WriteAllFault.WriteFault
         → Rose (K.faults output.old) (K.faults output.new) }

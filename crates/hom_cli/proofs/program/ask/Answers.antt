@@ -1,5 +1,4 @@
 use Rattle.std.proofs.Common.{[], ◌∙◌, rules}
-use Rattle.std.proofs.KnownBytes.{Keeps-refl}
 use Rattle.io_edge.proofs.Inputs.{whole_input, input_from, input_from_is, longer}
 use Rattle.io_edge.proofs.Parts.{not_begun}
 use Rattle.hom_cli.specs.Modes.{question_in}
@@ -18,7 +17,7 @@ returns-in-Ok-clause-writes g c =
 pub returns-in-Err-ReadFault-clause-writes : goal.returns-in-Err-ReadFault-clause-writes
 returns-in-Err-ReadFault-clause-writes g c =
     let left = g.S.Source.left c.args.input.now in
-    (input_from left [], input_from_is left [], Keeps-refl _)
+    (input_from left [], input_from_is left [], not_begun _ _)
 
 pub returns-in-Err-TooLong-clause-writes : goal.returns-in-Err-TooLong-clause-writes
 returns-in-Err-TooLong-clause-writes g c =
