@@ -1,5 +1,5 @@
 -- The laws of height orders and of colimits, the latter each at one dimension.
-use Rattle.std.specs.Prelude.{◌≡◌, ◌⊎◌, ◌↔◌, ℕ, suc, ◌<◌, List, length}
+use Rattle.std.specs.Prelude.{◌≡◌, ◌⊎◌, ◌↔◌, ℕ, suc, ◌<◌, List, length, Ok, Err}
 use Rattle.std.specs.List.{Contains}
 use Rattle.diagram_terms.specs.declared.place.Bias.{Bias}
 use Rattle.diagram_terms.specs.declared.place.Bias.TheVariants.{Unbiased}
@@ -15,6 +15,8 @@ use Rattle.diagram_terms.specs.Shapes.{ShapeArrow, Shape, IsShape, heights_of}
 use Rattle.diagram_terms.specs.Cocones.{Cocone, leg, IsCocone, IsPlainCocone, IsFactor}
 use Rattle.colimit_laws.specs.EachObject.{IsFromEachObject}
 use Rattle.diagram_terms.specs.ClassParts.{part}
+use Rattle.diagram_terms.specs.RankProgram.{ranks_under}
+use Rattle.diagram_terms.specs.ColimitProgram.{colimit_of}
 use Rattle.diagram_terms.specs.Colimits.{cocone_at, glued, IsColimit, HasNoBias}
 use Rattle.diagram_terms.specs.ColimitRefusals.{Refusal, IsRefused}
 
@@ -119,3 +121,21 @@ ColimitsAreUniversal d = (S : Shape d) (biases : List Bias) (c u : Cocone d) →
 abbrev pub PlainCoconesHavePlainFactors : ℕ → Type 0
 PlainCoconesHavePlainFactors d = (S : Shape d) (biases : List Bias) (c u : Cocone d) (v : Arr d) → IsShape d S → IsColimit d S biases c
     → IsPlainCocone d S u → IsFactor d S c u v → PlainArrow d v
+
+-- ---- programs
+
+-- the program answers with ranks exactly where they are those of the order, and with a fault exactly where it is that of
+-- the order
+abbrev pub RanksAreComputed : Type 0
+RanksAreComputed = (b : Bias) (H : HeightShape) (r : Ranks) → IsHeightShape H → (ranks_under b H ≡ Ok r) ↔ IsRanked b H r
+
+abbrev pub OrderFaultsAreComputed : Type 0
+OrderFaultsAreComputed = (b : Bias) (H : HeightShape) (e : OrderFault) → IsHeightShape H → (ranks_under b H ≡ Err e) ↔ IsOrderFault b H e
+
+-- the program answers with a cocone exactly where it is the colimit, and with a refusal exactly where it is that of the
+-- colimit
+abbrev pub ColimitsAreComputed : ℕ → Type 0
+ColimitsAreComputed d = (S : Shape d) (biases : List Bias) (c : Cocone d) → IsShape d S → (colimit_of d S biases ≡ Ok c) ↔ IsColimit d S biases c
+
+abbrev pub RefusalsAreComputed : ℕ → Type 0
+RefusalsAreComputed d = (S : Shape d) (biases : List Bias) (f : Refusal) → IsShape d S → (colimit_of d S biases ≡ Err f) ↔ IsRefused d S biases f

@@ -3,7 +3,7 @@ use Rattle.std.specs.Prelude.{ℕ, zero, suc, ◌-◌, Bool, false, ◌&&◌, na
 use Rattle.std.specs.List.{flat_map, range_with_len}
 use Rattle.diagram_terms.specs.declared.place.Height.{Height}
 use Rattle.diagram_terms.specs.declared.place.Height.TheVariants as slice
-use Rattle.diagram_terms.specs.Family.{Dia, Arr, reg, sing, fwd, bwd, height, arrow_sing}
+use Rattle.diagram_terms.specs.Family.{Dia, reg, sing, fwd, bwd, height, arrow_sing}
 use Rattle.diagram_terms.specs.Dual.{upto, dual}
 use Rattle.diagram_terms.specs.Ranks.{Ranks, ranks_of}
 use Rattle.diagram_terms.specs.Shapes.{Shape, ShapeArrow, object}

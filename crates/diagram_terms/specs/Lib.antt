@@ -61,6 +61,13 @@ pub mod Cocones
 pub mod ClassParts
 pub mod Colimits
 pub mod ColimitRefusals
+pub mod RankProgram
+pub mod ColimitProgram
+pub mod Contraction
+pub mod Settling
+pub mod GoodTrees
+pub mod ContractionTrees
+pub mod SettlingTrees
 pub mod Levels
 pub mod Nodes
 pub mod Values
