@@ -44,6 +44,11 @@ pub mod Cuts
 pub mod CutsOfCuts
 pub mod Neighbourhoods
 pub mod PulledPoints
+pub mod FullTyping
+pub mod DecidingPoints
+pub mod TypeCheck
+pub mod CarriedRegions
+pub mod SignatureMaps
 pub mod Places
 pub mod Order
 pub mod SameDiagrams

@@ -1,0 +1,4 @@
+pub mod Deciding
+pub mod TypedParts
+pub mod Alike
+pub mod Laws
