@@ -1,0 +1,9 @@
+pub mod ContractionLists
+pub mod ContractionProofs
+pub mod GoodTrees
+pub mod LawProofs
+pub mod SampleContractions
+pub mod SampleSettlings
+pub mod Settlings
+pub mod StepPoints
+pub mod TwoHeights
