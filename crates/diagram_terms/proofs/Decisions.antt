@@ -12,11 +12,10 @@ use Rattle.diagram_terms.specs.declared.label.Label.{Label}
 use Rattle.diagram_terms.specs.declared.place.Step.{Step}
 use Rattle.diagram_terms.specs.declared.place.End.{End}
 use Rattle.diagram_terms.specs.Labels.{IsAtMost, same_label, at_most}
-use Rattle.diagram_terms.specs.Family.{Ends, Dia, Arr, fwd, bwd, arrow_reg, arrow_sing}
+use Rattle.diagram_terms.specs.Family.{Ends, Dia, Arr}
 use Rattle.diagram_terms.specs.Dual.{dual}
-use Rattle.diagram_terms.specs.Composite.{comp}
-use Rattle.diagram_terms.specs.Valid.{Commutes}
-use Rattle.diagram_terms.specs.Places.{Test, Passes, same_arrow, here, one_step_in, under, at_each, square_commutes}
+use Rattle.diagram_terms.specs.Valid.{Commutes, CommutesOver, left_edge, right_edge, enter_edge, leave_edge}
+use Rattle.diagram_terms.specs.Places.{Test, Passes, same_arrow, here, one_step_in, under, at_each, edges_meet, square_commutes}
 
 -- ---- labels and arrows
 
@@ -132,77 +131,67 @@ passes_each n tests = (
 
 -- ---- squares
 
--- the parts of a square, as `Commutes` has them, and the test of them
-module _ {A : Type 0} (same : A → A → Bool) (decides : (x y : A) → (same x y ≡ true) ↔ (x ≡ y)) (left right : A) (enter leave : ℕ → A) where
-  abbrev all_inner : ℕ → ℕ → Bool
-  all_inner a b = list_all (λ i. same (leave i) (enter (suc i))) (range_with_len a (b - 1 - a))
+module _ (d : ℕ) (X Y : Dia (suc d)) (f : Arr (suc d)) (k a b : ℕ) where
+  abbrev decides : (g h : Arr d) → (same_arrow d g h ≡ true) ↔ (g ≡ h)
+  decides = same_arrow_decides d
 
-  record Meets (a b : ℕ) : Type 0 where
-    empty : a ≡ b → left ≡ right
-    first : (i : ℕ) → a ≡ i → i < b → left ≡ enter i
-    last : (i : ℕ) → a ≤ i → suc i ≡ b → right ≡ leave i
-    inner : (i : ℕ) → a ≤ i → suc i < b → leave i ≡ enter (suc i)
+  abbrev inner_test : ℕ → Bool
+  inner_test i = same_arrow d (leave_edge d X f i) (enter_edge d X f (suc i))
 
-  full_to : (a b : ℕ) → a < b → same left (enter a) ≡ true → same right (leave (b - 1)) ≡ true → all_inner a b ≡ true → Meets a b
-  full_to a b l p q r = record {
-    empty = λ e. absurd (omega arith);
-    first = λ i e k. subst (λ j. left ≡ enter j) e ((decides left (enter a)).0 p);
-    last = λ i k e. (let e2 : b - 1 ≡ i = omega arith in subst (λ j. right ≡ leave j) e2 ((decides right (leave (b - 1))).0 q));
-    inner = λ i k e. (decides (leave i) (enter (suc i))).0 (list_all_to (λ i. same (leave i) (enter (suc i))) a (b - 1 - a) r i k (omega arith));
-  }
+  abbrev all_inner : Bool
+  all_inner = list_all inner_test (range_with_len a (b - 1 - a))
 
-  empty_to : (a b : ℕ) → a ≡ b → same left right ≡ true → Meets a b
-  empty_to a b l p = record {
-    empty = λ e. (decides left right).0 p;
-    first = λ i e k. absurd (omega arith);
-    last = λ i k e. absurd (omega arith);
-    inner = λ i k e. absurd (omega arith);
-  }
+  abbrev first_test : Bool
+  first_test = same_arrow d (left_edge d Y f k) (enter_edge d X f a)
 
-  inner_from : (a b : ℕ) → a < b → Meets a b → all_inner a b ≡ true
-  inner_from a b l m = list_all_from (λ i. same (leave i) (enter (suc i))) a (b - 1 - a)
-      (λ i k e. (decides (leave i) (enter (suc i))).1 (m.inner i k (omega arith)))
+  abbrev last_test : Bool
+  last_test = same_arrow d (right_edge d Y f k) (leave_edge d X f (b - 1))
 
-  abbrev full_test : ℕ → ℕ → Bool
-  full_test a b = same left (enter a) && same right (leave (b - 1)) && all_inner a b
+  abbrev empty_test : Bool
+  empty_test = same_arrow d (left_edge d Y f k) (right_edge d Y f k)
 
-  abbrev meets_test : ℕ → ℕ → Bool
-  meets_test a b = cond (nat_lt a b) (full_test a b) (same left right)
+  abbrev full_test : Bool
+  full_test = first_test && last_test && all_inner
 
-  meets_to : (a b : ℕ) → a ≤ b → meets_test a b ≡ true → Meets a b
-  meets_to a b low h = elim (cases_lt a b) [
-    | inl l ↦ (let e = sym (cond-true (nat_lt a b) (full_test a b) (same left right) (lt-ltb a b l)) ∙ h in
-        let p = and_parts (same left (enter a) && same right (leave (b - 1))) (all_inner a b) e in
-        let q = and_parts (same left (enter a)) (same right (leave (b - 1))) p.0 in
-        full_to a b l q.0 q.1 p.1)
-    | inr l ↦ empty_to a b (omega arith) (sym (cond-false (nat_lt a b) (full_test a b) (same left right) (le-ltb a b l)) ∙ h)
+  abbrev meet : Bool
+  meet = edges_meet d (left_edge d Y f k) (right_edge d Y f k) (enter_edge d X f) (leave_edge d X f) a b
+
+  full_to : a < b → full_test ≡ true → CommutesOver d X Y f k a b
+  full_to l h =
+      let p = and_parts (first_test && last_test) all_inner h in
+      let q = and_parts first_test last_test p.0 in
+      record {
+        empty = λ e. absurd (omega arith);
+        first = λ m. (decides _ _).0 q.0;
+        last = λ m. (decides _ _).0 q.1;
+        inner = λ i low high. (decides _ _).0 (list_all_to inner_test a (b - 1 - a) p.1 i low (omega arith));
+      }
+
+  full_from : a < b → CommutesOver d X Y f k a b → full_test ≡ true
+  full_from l m = and_from (first_test && last_test) all_inner
+      (and_from first_test last_test ((decides _ _).1 (m.first l)) ((decides _ _).1 (m.last l)))
+      (list_all_from inner_test a (b - 1 - a) (λ i low high. (decides _ _).1 (m.inner i low (omega arith))))
+
+  meet_to : a ≤ b → meet ≡ true → CommutesOver d X Y f k a b
+  meet_to low h = elim (cases_lt a b) [
+    | inl l ↦ full_to l (sym (cond-true (nat_lt a b) full_test empty_test (lt-ltb a b l)) ∙ h)
+    | inr l ↦ (let e = (decides _ _).0 (sym (cond-false (nat_lt a b) full_test empty_test (le-ltb a b l)) ∙ h) in record {
+        empty = λ p. e;
+        first = λ m. absurd (omega arith);
+        last = λ m. absurd (omega arith);
+        inner = λ i p q. absurd (omega arith);
+      })
   ]
 
-  meets_from : (a b : ℕ) → a ≤ b → Meets a b → meets_test a b ≡ true
-  meets_from a b low m = elim (cases_lt a b) [
-    | inl l ↦ cond-true (nat_lt a b) (full_test a b) (same left right) (lt-ltb a b l)
-        ∙ and_from (same left (enter a) && same right (leave (b - 1))) (all_inner a b)
-        (and_from (same left (enter a)) (same right (leave (b - 1)))
-        ((decides left (enter a)).1 (m.first a refl l))
-        ((decides right (leave (b - 1))).1 (m.last (b - 1) (omega arith) (omega arith))))
-        (inner_from a b l m)
-    | inr l ↦ cond-false (nat_lt a b) (full_test a b) (same left right) (le-ltb a b l)
-        ∙ (decides left right).1 (m.empty (omega arith))
+  meet_from : a ≤ b → CommutesOver d X Y f k a b → meet ≡ true
+  meet_from low m = elim (cases_lt a b) [
+    | inl l ↦ cond-true (nat_lt a b) full_test empty_test (lt-ltb a b l) ∙ full_from l m
+    | inr l ↦ cond-false (nat_lt a b) full_test empty_test (le-ltb a b l) ∙ (decides _ _).1 (m.empty (omega arith))
   ]
-
-  meets_decides : (a b : ℕ) → a ≤ b → (meets_test a b ≡ true) ↔ Meets a b
-  meets_decides a b low = (meets_to a b low, meets_from a b low)
 
 pub square_decides : (d : ℕ) (X Y : Dia (suc d)) (f : Arr (suc d)) (k : ℕ) → dual f.heights k ≤ dual f.heights (suc k)
     → (square_commutes d X Y f k ≡ true) ↔ Commutes d X Y f k
-square_decides d X Y f k low =
-    let e = meets_decides (same_arrow d) (same_arrow_decides d)
-    (comp d (fwd d Y k) (arrow_reg d f k)) (comp d (bwd d Y k) (arrow_reg d f (suc k)))
-    (λ i. comp d (arrow_sing d f i) (fwd d X i)) (λ i. comp d (arrow_sing d f i) (bwd d X i))
-    (dual f.heights k) (dual f.heights (suc k)) low in (
-      λ h. (let m = e.0 h in record { empty = m.empty; first = m.first; last = m.last; inner = m.inner }),
-      λ c. e.1 (record { empty = c.empty; first = c.first; last = c.last; inner = c.inner }),
-    )
+square_decides d X Y f k low = (meet_to d X Y f k _ _ low, meet_from d X Y f k _ _ low)
 
 -- ---- duals
 

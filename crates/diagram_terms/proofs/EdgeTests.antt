@@ -9,8 +9,9 @@ use Rattle.diagram_terms.specs.Tree.{nil}
 use Rattle.diagram_terms.specs.Family.{Dia, Arr, no_arr}
 use Rattle.diagram_terms.specs.Dual.{tab, dual, IsMonotone}
 use Rattle.diagram_terms.specs.Decoded.{arr_tree, arr}
-use Rattle.diagram_terms.specs.Places.{here, same_arrow, square_commutes, first_failure}
-use Rattle.diagram_terms.specs.Edges.{AreEdges, HoldsEdges, HoldsPairs, edges_meet, left_edge, right_edge, enter_edge, leave_edge}
+use Rattle.diagram_terms.specs.Places.{here, same_arrow, square_commutes, first_failure, edges_meet}
+use Rattle.diagram_terms.specs.Edges.{AreEdges, HoldsEdges, HoldsPairs}
+use Rattle.diagram_terms.specs.Valid.{left_edge, right_edge, enter_edge, leave_edge}
 use Rattle.diagram_terms.specs.Levels.{square_place, square_tests}
 use Rattle.diagram_terms.specs.Values.{tree_of_arrow}
 use Rattle.diagram_terms.proofs.Decisions.{same_arrow_decides, list_all_to, list_all_from}

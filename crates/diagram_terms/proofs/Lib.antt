@@ -27,5 +27,6 @@ pub mod Printing
 pub mod Samples
 pub mod Shapes
 pub mod SquareParts
+pub mod Squares
 pub mod ValueLemmas
 pub mod Visiting

@@ -8,7 +8,8 @@ use Rattle.diagram_terms.specs.Tree.{Tree, nil}
 use Rattle.diagram_terms.specs.Family.{Dia, Arr, no_arr, reg, sing, fwd, bwd, height, arrow_reg, arrow_sing}
 use Rattle.diagram_terms.specs.Dual.{dual}
 use Rattle.diagram_terms.specs.Decoded.{arr_tree}
-use Rattle.diagram_terms.specs.Edges.{AreEdges, HoldsEdges, HoldsPairs, left_edge, right_edge, enter_edge, leave_edge}
+use Rattle.diagram_terms.specs.Edges.{AreEdges, HoldsEdges, HoldsPairs}
+use Rattle.diagram_terms.specs.Valid.{left_edge, right_edge, enter_edge, leave_edge}
 use Rattle.diagram_terms.specs.Levels.{SlicesAreValid}
 use Rattle.diagram_terms.specs.Values.{tree_of_arrow, trees_of_arrows}
 use Rattle.diagram_terms.proofs.Composites.{valid_composable}

@@ -4,7 +4,7 @@ use Rattle.diagram_terms.specs.Family.{Dia, Arr, reg, sing, fwd, bwd, height, ar
 use Rattle.diagram_terms.specs.Dual.{IsIncreasing, upto, dual}
 use Rattle.diagram_terms.specs.Composite.{comp, ident}
 use Rattle.diagram_terms.specs.Identity.{IsIdentity}
-use Rattle.diagram_terms.specs.Valid.{ValidArrow, Valid}
+use Rattle.diagram_terms.specs.Valid.{ValidArrow, Valid, left_edge, right_edge}
 
 -- f : X → Y is simple: its heights strictly increase, its slices are identities, and both legs of Y are identities at each
 -- height to which no height of X goes
@@ -54,9 +54,9 @@ pub record DegeneracyZag (d : ℕ) (G : Dia d → Dia d → Arr d → Type 0) (X
   pub sings : (i : ℕ) → i < length X.sings → G (sing d X i) (sing d Y (height d f i)) (arrow_sing d f i)
   -- the two composites into the singular slice at a height to which no height of X goes
   pub missed_fwds : (k : ℕ) → k < length Y.sings → dual f.heights k ≡ dual f.heights (suc k)
-      → G (reg d X (dual f.heights k)) (sing d Y k) (comp d (fwd d Y k) (arrow_reg d f k))
+      → G (reg d X (dual f.heights k)) (sing d Y k) (left_edge d Y f k)
   pub missed_bwds : (k : ℕ) → k < length Y.sings → dual f.heights k ≡ dual f.heights (suc k)
-      → G (reg d X (dual f.heights (suc k))) (sing d Y k) (comp d (bwd d Y k) (arrow_reg d f (suc k)))
+      → G (reg d X (dual f.heights (suc k))) (sing d Y k) (right_edge d Y f k)
 
 -- f : X → Y has the shape of a degeneracy
 abbrev pub DegeneracyByShape : (d : ℕ) → Dia d → Dia d → Arr d → Type 0

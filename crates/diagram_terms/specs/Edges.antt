@@ -1,41 +1,17 @@
--- The composites that the squares of an arrow compare, as a program holds them.
-use Rattle.std.specs.Prelude.{◌≡◌, ℕ, ◌<◌, ◌≤◌, ◌-◌, length, get_or, map, List, suc, Bool, ◌&&◌, nat_lt, if◌then◌else◌}
-use Rattle.std.specs.List.{list_all, range_with_len}
+-- The edges of the squares of an arrow, as a program holds them.
+use Rattle.std.specs.Prelude.{◌≡◌, ℕ, ◌<◌, ◌≤◌, length, get_or, map, List, suc}
 use Rattle.diagram_terms.specs.declared.tree.Arrow.{Arrow}
 use Rattle.diagram_terms.specs.Dual.{IsMonotone, tab}
-use Rattle.diagram_terms.specs.Family.{Dia, Arr, fwd, bwd, arrow_reg, arrow_sing}
+use Rattle.diagram_terms.specs.Family.{Dia, Arr}
 use Rattle.diagram_terms.specs.Decoded.{arr_tree}
-use Rattle.diagram_terms.specs.Composite.{comp}
 use Rattle.diagram_terms.specs.Composable.{AreComposable}
-use Rattle.diagram_terms.specs.Places.{same_arrow}
+use Rattle.diagram_terms.specs.Valid.{left_edge, right_edge, enter_edge, leave_edge}
 use Rattle.diagram_terms.specs.Tree.{nil}
 use Rattle.diagram_terms.specs.Values.{trees_of_arrows}
-
--- the two ways into the singular slice at the height k of Y, past the regular slices of f
-abbrev pub left_edge : (d : ℕ) → Dia (suc d) → Arr (suc d) → ℕ → Arr d
-left_edge d Y f k = comp d (fwd d Y k) (arrow_reg d f k)
-
-abbrev pub right_edge : (d : ℕ) → Dia (suc d) → Arr (suc d) → ℕ → Arr d
-right_edge d Y f k = comp d (bwd d Y k) (arrow_reg d f (suc k))
-
--- and those through the singular slice at the height i of X
-abbrev pub enter_edge : (d : ℕ) → Dia (suc d) → Arr (suc d) → ℕ → Arr d
-enter_edge d X f i = comp d (arrow_sing d f i) (fwd d X i)
-
-abbrev pub leave_edge : (d : ℕ) → Dia (suc d) → Arr (suc d) → ℕ → Arr d
-leave_edge d X f i = comp d (arrow_sing d f i) (bwd d X i)
 
 -- the arrows held are the edges 0 to n - 1
 abbrev pub AreEdges : (d : ℕ) → (ℕ → Arr d) → ℕ → List Arrow → Type 0
 AreEdges d edge n held = trees_of_arrows held ≡ map (arr_tree d) (tab edge n)
-
--- a square whose inner heights are those from a on, below b, commutes
-abbrev pub edges_meet : (d : ℕ) → Arr d → Arr d → (ℕ → Arr d) → (ℕ → Arr d) → ℕ → ℕ → Bool
-edges_meet d left right enter leave a b =
-    if nat_lt a b
-    then same_arrow d left (enter a) && same_arrow d right (leave (b - 1))
-    && list_all (λ i. same_arrow d (leave i) (enter (suc i))) (range_with_len a (b - 1 - a))
-    else same_arrow d left right
 
 -- the arrows g k and f k that a program holds can be composed, for each k below the length of the first list
 pub record HoldsPairs (d : ℕ) (g f : ℕ → Arr d) (second first : List Arrow) : Type 0 where

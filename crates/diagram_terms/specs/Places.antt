@@ -11,7 +11,7 @@ use Rattle.diagram_terms.specs.declared.place.Place.{Place}
 use Rattle.diagram_terms.specs.Labels.{same_label, at_most}
 use Rattle.diagram_terms.specs.Family.{Ends, Dia, Arr, reg, sing, fwd, bwd, height, arrow_reg, arrow_sing}
 use Rattle.diagram_terms.specs.Dual.{upto, dual}
-use Rattle.diagram_terms.specs.Composite.{comp}
+use Rattle.diagram_terms.specs.Valid.{left_edge, right_edge, enter_edge, leave_edge}
 
 -- whether two arrows are one, as a test
 abbrev pub same_arrow : (d : ℕ) → Arr d → Arr d → Bool
@@ -50,17 +50,17 @@ at_each n tests = flat_map tests (upto n)
 abbrev pub lengths_fit : (d : ℕ) → Dia (suc d) → Dia (suc d) → Arr (suc d) → Bool
 lengths_fit d X Y f = nat_eq (length f.heights) (length X.sings) && nat_eq (length f.regs) (suc (length Y.sings))
 
--- the square of f : X → Y at the height k of Y, to which the heights from a on, below b, go
-abbrev pub square_from : (d : ℕ) → Dia (suc d) → Dia (suc d) → Arr (suc d) → ℕ → ℕ → ℕ → Bool
-square_from d X Y f k a b =
+-- a square commutes that has these edges, and to whose height the heights from a on, below b, go
+abbrev pub edges_meet : (d : ℕ) → Arr d → Arr d → (ℕ → Arr d) → (ℕ → Arr d) → ℕ → ℕ → Bool
+edges_meet d left right enter leave a b =
     if nat_lt a b
-    then same_arrow d (comp d (fwd d Y k) (arrow_reg d f k)) (comp d (arrow_sing d f a) (fwd d X a))
-    && same_arrow d (comp d (bwd d Y k) (arrow_reg d f (suc k))) (comp d (arrow_sing d f (b - 1)) (bwd d X (b - 1)))
-    && list_all (λ i. same_arrow d (comp d (arrow_sing d f i) (bwd d X i)) (comp d (arrow_sing d f (suc i)) (fwd d X (suc i)))) (range_with_len a (b - 1 - a))
-    else same_arrow d (comp d (fwd d Y k) (arrow_reg d f k)) (comp d (bwd d Y k) (arrow_reg d f (suc k)))
+    then same_arrow d left (enter a) && same_arrow d right (leave (b - 1))
+    && list_all (λ i. same_arrow d (leave i) (enter (suc i))) (range_with_len a (b - 1 - a))
+    else same_arrow d left right
 
 abbrev pub square_commutes : (d : ℕ) → Dia (suc d) → Dia (suc d) → Arr (suc d) → ℕ → Bool
-square_commutes d X Y f k = square_from d X Y f k (dual f.heights k) (dual f.heights (suc k))
+square_commutes d X Y f k =
+    edges_meet d (left_edge d Y f k) (right_edge d Y f k) (enter_edge d X f) (leave_edge d X f) (dual f.heights k) (dual f.heights (suc k))
 
 -- an arrow of dimension 0 is the pair of its ends, in order
 abbrev pub ends_hold : Label → Label → Ends → Bool

@@ -4,7 +4,7 @@ use Rattle.diagram_terms.specs.declared.place.Height.{Height}
 use Rattle.diagram_terms.specs.declared.place.Height.TheVariants as height_kind
 use Rattle.diagram_terms.specs.Cuts.{cut_arrow}
 use Rattle.diagram_terms.specs.Dual.{dual}
-use Rattle.diagram_terms.specs.Edges.{left_edge}
+use Rattle.diagram_terms.specs.Valid.{left_edge}
 use Rattle.diagram_terms.specs.Family.{Dia, Arr, reg, sing, fwd, bwd, arrow_reg, arrow_sing}
 use Rattle.diagram_terms.specs.Identity.{IsIdentity}
 use Rattle.diagram_terms.specs.PointRegions.{point_region}

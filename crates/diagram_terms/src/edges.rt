@@ -2,10 +2,10 @@ ghost use Rattle.std.specs.Prelude.{◌≡◌, ◌≤◌, ◌<◌, ◌-◌, ℕ,
 ghost use Rattle.std.specs.List.{list_all, range_with_len};
 ghost use Rattle.diagram_terms.specs.Composite.{comp};
 ghost use Rattle.diagram_terms.specs.Decoded.{arr_tree};
-ghost use Rattle.diagram_terms.specs.Edges.{AreEdges, HoldsEdges, HoldsPairs, edges_meet};
+ghost use Rattle.diagram_terms.specs.Edges.{AreEdges, HoldsEdges, HoldsPairs};
 ghost use Rattle.diagram_terms.specs.Family.{Arr, Dia};
 ghost use Rattle.diagram_terms.specs.Levels.{SlicesAreValid, StandsBetween, square_place, square_tests};
-ghost use Rattle.diagram_terms.specs.Places.{first_failure, same_arrow};
+ghost use Rattle.diagram_terms.specs.Places.{edges_meet, first_failure, same_arrow};
 ghost use Rattle.diagram_terms.specs.Values.{tree_of_arrow};
 
 use crate::compare::equal_arrows;

@@ -1,10 +1,9 @@
 -- The cut of a valid arrow at a closed region of its target is a valid arrow between the cuts.
 use Rattle.std.proofs.Common.{◌≡◌, ℕ, zero, suc, ◌+◌, ◌-◌, ◌<◌, ◌≤◌, refl, sym, ap, ◌∙◌, subst, arith}
-use Rattle.diagram_terms.specs.Edges.{left_edge, right_edge, enter_edge, leave_edge}
 use Rattle.diagram_terms.specs.Family.{Dia, Arr, reg, sing, fwd, bwd, height, arrow_reg, arrow_sing}
 use Rattle.diagram_terms.specs.Dual.{AreBelow, dual}
 use Rattle.diagram_terms.specs.Composite.{comp}
-use Rattle.diagram_terms.specs.Valid.{ValidArrow, Valid, Commutes}
+use Rattle.diagram_terms.specs.Valid.{ValidArrow, Valid, Commutes, left_edge, right_edge, enter_edge, leave_edge}
 use Rattle.diagram_terms.proofs.Duals.{dual_mono, in_fibre}
 use Rattle.diagram_terms.proofs.MonotoneParts.{restriction_mono, restriction_below}
 use Rattle.map_laws.proofs.ValidParts.{dual_within}

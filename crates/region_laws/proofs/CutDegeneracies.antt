@@ -1,10 +1,9 @@
 -- The cut of a degeneracy has the shape of one.
 use Rattle.std.proofs.Common.{◌≡◌, ℕ, zero, suc, ◌+◌, ◌<◌, ◌≤◌, refl, sym, ap, ◌∙◌, arith}
-use Rattle.diagram_terms.specs.Edges.{left_edge, right_edge}
 use Rattle.diagram_terms.specs.Family.{Dia, Arr, reg, sing, height, arrow_reg, arrow_sing}
 use Rattle.diagram_terms.specs.Dual.{IsIncreasing, dual}
 use Rattle.diagram_terms.specs.Degeneracy.{DegeneracyByShape}
-use Rattle.diagram_terms.specs.Valid.{ValidArrow, Valid}
+use Rattle.diagram_terms.specs.Valid.{ValidArrow, Valid, left_edge, right_edge}
 use Rattle.diagram_terms.proofs.Duals.{dual_mono}
 use Rattle.map_laws.proofs.ValidParts.{dual_within}
 use Rattle.diagram_terms.specs.Regions.{Reg, reg_region, sing_region}

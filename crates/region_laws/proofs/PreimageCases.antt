@@ -1,10 +1,9 @@
 -- The cases of a preimage agree, under f : X → Y, where preimages one dimension lower compose.
 use Rattle.std.proofs.Common.{◌≡◌, ℕ, zero, suc, ◌+◌, ◌-◌, ◌<◌, ◌≤◌, length, refl, sym, ap, ◌∙◌, subst, arith, inl, inr}
 use Rattle.std.proofs.lemmas.Bool.{cases_lt}
-use Rattle.diagram_terms.specs.Edges.{left_edge, right_edge, enter_edge, leave_edge}
 use Rattle.diagram_terms.specs.Family.{Dia, Arr, reg, sing, fwd, bwd, height, arrow_reg, arrow_sing}
 use Rattle.diagram_terms.specs.Dual.{dual}
-use Rattle.diagram_terms.specs.Valid.{ValidArrow, Valid}
+use Rattle.diagram_terms.specs.Valid.{ValidArrow, Valid, left_edge, right_edge, enter_edge, leave_edge}
 use Rattle.diagram_terms.proofs.Duals.{dual-lt, dual_mono, in_fibre, fibre_low, fibre_high}
 use Rattle.diagram_terms.proofs.MonotoneParts.{dual-ge, dual_constant, dual_at_step}
 use Rattle.map_laws.specs.Edges.{HasEdges}

@@ -3,11 +3,10 @@ use Rattle.std.proofs.Common.{◌≡◌, ◌⊎◌, ℕ, zero, suc, ◌<◌, ◌
 use Rattle.std.proofs.lemmas.Bool.{cases_lt, cond-true, cond-false, lt-ltb, le-ltb}
 use Rattle.diagram_terms.specs.declared.place.Height.{Height}
 use Rattle.diagram_terms.specs.declared.place.Height.TheVariants as height_kind
-use Rattle.diagram_terms.specs.Edges.{left_edge}
 use Rattle.diagram_terms.specs.Family.{Dia, Arr, reg, sing, fwd, bwd, height, arrow_reg, arrow_sing}
 use Rattle.diagram_terms.specs.Dual.{dual}
 use Rattle.diagram_terms.specs.Degeneracy.{DegeneracyByShape}
-use Rattle.diagram_terms.specs.Valid.{ValidArrow, Valid}
+use Rattle.diagram_terms.specs.Valid.{ValidArrow, Valid, left_edge}
 use Rattle.diagram_terms.proofs.Duals.{dual_mono, dual-le-length, in_fibre, dual-same, dual-next, dual_hits}
 use Rattle.map_laws.proofs.ValidParts.{dual_within, height_within}
 use Rattle.map_laws.proofs.ValidComposites.{composites_are_valid}

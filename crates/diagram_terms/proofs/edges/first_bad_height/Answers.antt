@@ -1,6 +1,6 @@
 use Rattle.std.proofs.Common.{◌≤◌, ◌<◌, ◌+◌, length, sym, ◌∙◌, arith}
 use Rattle.diagram_terms.specs.Dual.{dual}
-use Rattle.diagram_terms.specs.Edges.{enter_edge, leave_edge}
+use Rattle.diagram_terms.specs.Valid.{enter_edge, leave_edge}
 use Rattle.diagram_terms.proofs.Composites.{dual_later}
 use Rattle.diagram_terms.proofs.EdgeTests.{heights_monotone, held_dual, lefts_len, dual_start, square_answer, all_commute, one_does_not, one_more_commutes}
 use Rattle.diagram_terms.proofs.edges.first_bad_height.Goals as goal
