@@ -20,6 +20,7 @@ use Rattle.diagram_terms.specs.Shapes.{Shape, ShapeArrow, IsShape, heights_of, o
 use Rattle.diagram_terms.specs.Cocones.{Cocone, leg, IsPlainCocone}
 use Rattle.diagram_terms.specs.ClassParts.{place, height_slice, part}
 use Rattle.diagram_terms.specs.Colimits.{cocone_at, part_leg}
+use Rattle.diagram_terms.proofs.Squares.{first_at, last_at}
 use Rattle.colimit_laws.proofs.Names.{IsInPart}
 use Rattle.colimit_laws.proofs.Ranked.{row-dual_within, dual-along, arrow-of}
 use Rattle.colimit_laws.proofs.Parts.{bwd_arrow, fwd_arrow, slice_arrow, object-at_place, sing-in_part, reg-in_part, bwd-among, fwd-among, slice-among}
@@ -69,11 +70,11 @@ module _ (d : ℕ) (S : Shape (suc d)) (vS : IsShape (suc d) S) (r : Ranks) (ar 
 
     pub first-leg : (t i : ℕ) → t < length Y.sings → dual g.arrow.heights t ≡ i → i < dual g.arrow.heights (suc t)
         → fwd d Y t ≡ comp d (arrow_sing d g.arrow i) (fwd d X i)
-    first-leg t i l e m = sym (fwd-past t l) ∙ ((arrow-of d S vS r ar g c).valid.squares t l).first i e m
+    first-leg t i l e m = sym (fwd-past t l) ∙ first_at ((arrow-of d S vS r ar g c).valid.squares t l) i e m
 
     pub last-leg : (t i : ℕ) → t < length Y.sings → dual g.arrow.heights t ≤ i → suc i ≡ dual g.arrow.heights (suc t)
         → bwd d Y t ≡ comp d (arrow_sing d g.arrow i) (bwd d X i)
-    last-leg t i l m e = sym (bwd-past t l) ∙ ((arrow-of d S vS r ar g c).valid.squares t l).last i m e
+    last-leg t i l m e = sym (bwd-past t l) ∙ last_at ((arrow-of d S vS r ar g c).valid.squares t l) i m e
 
 module _ (d : ℕ) (S : Shape (suc d)) (vS : IsShape (suc d) S) (r : Ranks) (ar : AreRanks (heights_of d S) r) (parts : List (Cocone d))
     (k : ℕ) (good : IsPlainCocone d (part d S r k) (cocone_at d parts k)) where

@@ -17,6 +17,7 @@ use Rattle.diagram_terms.specs.Cocones.{Cocone, leg, IsPlainCocone}
 use Rattle.diagram_terms.specs.ClassParts.{part}
 use Rattle.diagram_terms.specs.Colimits.{cocone_at, glued, outer_bias, inner_biases, IsColimit, HasNoBias}
 use Rattle.diagram_terms.specs.ColimitRefusals.{Refusal, IsRefused, order, in_order, in_part}
+use Rattle.diagram_terms.proofs.Squares.{first_at, last_at}
 use Rattle.colimit_laws.specs.Laws.{ShapesHaveHeights, PartsAreShapes, ColimitsArePlainCocones, ColimitsAreFromEachObject, ColimitsAreUnique, RefusalsAreUnique, ColimitsExcludeRefusals, UnbiasedColimitsStay}
 use Rattle.colimit_laws.proofs.Membership.{from_map}
 use Rattle.colimit_laws.proofs.Ranked.{lengths-len, length-at, map_of}
@@ -79,10 +80,10 @@ colimits_are_from_each_object d S biases c vS z =
       regs = λ x j lx lj. sym (unfolds x lx j lj).0;
       fwds = λ x k i lx lk e m.
           sym (ap (comp d (fwd d A k)) (unfolds x lx k (omega arith)).1 ∙ neutral_before d _ _ (fwd d A k) (vA.regs k (omega arith)) (vA.fwds k lk))
-          ∙ ((p.cocone.legs x lx).squares k lk).first i e m;
+          ∙ first_at ((p.cocone.legs x lx).squares k lk) i e m;
       bwds = λ x k i lx lk m e.
           sym (ap (comp d (bwd d A k)) (unfolds x lx (suc k) lk).1 ∙ neutral_before d _ _ (bwd d A k) (vA.regs (suc k) lk) (vA.bwds k lk))
-          ∙ ((p.cocone.legs x lx).squares k lk).last i m e;
+          ∙ last_at ((p.cocone.legs x lx).squares k lk) i m e;
     }
 
 -- ---- one answer

@@ -16,6 +16,7 @@ use Rattle.diagram_terms.specs.Shapes.{Shape, IsShape, heights_of, object}
 use Rattle.diagram_terms.specs.Cocones.{Cocone, leg, IsCocone, IsPlainCocone, IsFactor}
 use Rattle.diagram_terms.specs.ClassParts.{place, part}
 use Rattle.diagram_terms.specs.Colimits.{cocone_at, part_leg, glued_apex, glued_leg}
+use Rattle.diagram_terms.proofs.Squares.{first_at, last_at, commutes_by}
 use Rattle.colimit_laws.proofs.Names.{IsInPart}
 use Rattle.colimit_laws.proofs.Ranked.{rows-len, row-len, row-mono, row-dual_mono, rank-below}
 use Rattle.colimit_laws.proofs.Parts.{object-at_place, object-within, sing-in_part}
@@ -117,44 +118,43 @@ module _ (d : ℕ) (S : Shape (suc d)) (vS : IsShape (suc d) S) (r : Ranks) (ar 
       let mono = factor-mono d S vS r ar u cu settled in
       let n = length-tab goes r.count in
       let full = dual-le-length hs (suc l) in
-      record {
-        empty = λ e.
-            ap (comp d (fwd d D l)) (factor-reg 0 l vS.nonempty (omega arith))
-            ∙ ((cu.legs 0 vS.nonempty).squares l ll).empty (factor-dual d S vS r ar u cu settled 0 l vS.nonempty ∙ ap (dual (ranks_of r 0)) e
-            ∙ sym (factor-dual d S vS r ar u cu settled 0 (suc l) vS.nonempty))
-            ∙ ap (comp d (bwd d D l)) (sym (factor-reg 0 (suc l) vS.nonempty ll));
-        first = λ t e m.
-            let lt : t < r.count = omega arith in
-            let o = with_member t lt in
-            let x : ℕ = o.0 in
-            let h = o.2 in
-            let a : ℕ = dual (ranks_of r x) t in
-            let low : dual (given_leg x).heights l ≡ a = factor-dual d S vS r ar u cu settled x l o.1 ∙ ap (dual (ranks_of r x)) e in
-            let high = factor-dual d S vS r ar u cu settled x (suc l) o.1 in
-            let up = row-dual_mono d S vS r ar x (suc t) (dual hs (suc l)) o.1 m in
-            ap (comp d (fwd d D l)) (factor-reg x l o.1 (omega arith)) ∙ ((cu.legs x o.1).squares l ll).first a low (omega arith)
-            ∙ sym (ap (comp d (part_factor t)) (apex-fwd_from d S vS r ar parts good t lt x o.1 h)
-            ∙ enter-gives t lt x a (first-member d S vS r ar parts t (good t lt) x o.1 h));
-        last = λ t m e.
-            let lt : t < r.count = omega arith in
-            let o = with_member t lt in
-            let x : ℕ = o.0 in
-            let h = o.2 in
-            let b : ℕ = dual (ranks_of r x) (suc t) - 1 in
-            let low = factor-dual d S vS r ar u cu settled x l o.1 in
-            let down = row-dual_mono d S vS r ar x (dual hs l) t o.1 m in
-            let high : dual (given_leg x).heights (suc l) ≡ dual (ranks_of r x) (suc t) =
-            factor-dual d S vS r ar u cu settled x (suc l) o.1 ∙ ap (dual (ranks_of r x)) (sym e) in
-            ap (comp d (bwd d D l)) (factor-reg x (suc l) o.1 ll) ∙ ((cu.legs x o.1).squares l ll).last b (omega arith) (omega arith)
-            ∙ sym (ap (comp d (part_factor t)) (apex-bwd_from d S vS r ar parts good t lt x o.1 h)
-            ∙ leave-gives t lt x b (last-member d S vS r ar parts t (good t lt) x o.1 h));
-        inner = λ t m e.
-            let lt : t < r.count = omega arith in
-            let ln : suc t < r.count = omega arith in
-            let here = in_fibre hs mono t l m (omega arith) in
-            let next = in_fibre hs mono (suc t) l (omega arith) e in
-            inner_square l ll t lt ln (sym (factor-height d S vS r ar u cu t lt) ∙ here) (sym (factor-height d S vS r ar u cu (suc t) ln) ∙ next);
-      }
+      commutes_by d A D factor l
+      (λ e.
+      ap (comp d (fwd d D l)) (factor-reg 0 l vS.nonempty (omega arith))
+      ∙ ((cu.legs 0 vS.nonempty).squares l ll).empty (factor-dual d S vS r ar u cu settled 0 l vS.nonempty ∙ ap (dual (ranks_of r 0)) e
+      ∙ sym (factor-dual d S vS r ar u cu settled 0 (suc l) vS.nonempty))
+      ∙ ap (comp d (bwd d D l)) (sym (factor-reg 0 (suc l) vS.nonempty ll)))
+      (λ t e m.
+      let lt : t < r.count = omega arith in
+      let o = with_member t lt in
+      let x : ℕ = o.0 in
+      let h = o.2 in
+      let a : ℕ = dual (ranks_of r x) t in
+      let low : dual (given_leg x).heights l ≡ a = factor-dual d S vS r ar u cu settled x l o.1 ∙ ap (dual (ranks_of r x)) e in
+      let high = factor-dual d S vS r ar u cu settled x (suc l) o.1 in
+      let up = row-dual_mono d S vS r ar x (suc t) (dual hs (suc l)) o.1 m in
+      ap (comp d (fwd d D l)) (factor-reg x l o.1 (omega arith)) ∙ first_at ((cu.legs x o.1).squares l ll) a low (omega arith)
+      ∙ sym (ap (comp d (part_factor t)) (apex-fwd_from d S vS r ar parts good t lt x o.1 h)
+      ∙ enter-gives t lt x a (first-member d S vS r ar parts t (good t lt) x o.1 h)))
+      (λ t m e.
+      let lt : t < r.count = omega arith in
+      let o = with_member t lt in
+      let x : ℕ = o.0 in
+      let h = o.2 in
+      let b : ℕ = dual (ranks_of r x) (suc t) - 1 in
+      let low = factor-dual d S vS r ar u cu settled x l o.1 in
+      let down = row-dual_mono d S vS r ar x (dual hs l) t o.1 m in
+      let high : dual (given_leg x).heights (suc l) ≡ dual (ranks_of r x) (suc t) =
+      factor-dual d S vS r ar u cu settled x (suc l) o.1 ∙ ap (dual (ranks_of r x)) (sym e) in
+      ap (comp d (bwd d D l)) (factor-reg x (suc l) o.1 ll) ∙ last_at ((cu.legs x o.1).squares l ll) b (omega arith) (omega arith)
+      ∙ sym (ap (comp d (part_factor t)) (apex-bwd_from d S vS r ar parts good t lt x o.1 h)
+      ∙ leave-gives t lt x b (last-member d S vS r ar parts t (good t lt) x o.1 h)))
+      (λ t m e.
+      let lt : t < r.count = omega arith in
+      let ln : suc t < r.count = omega arith in
+      let here = in_fibre hs mono t l m (omega arith) in
+      let next = in_fibre hs mono (suc t) l (omega arith) e in
+      inner_square l ll t lt ln (sym (factor-height d S vS r ar u cu t lt) ∙ here) (sym (factor-height d S vS r ar u cu (suc t) ln) ∙ next))
     where
       -- two ranks that follow one another and go to l stand at heights of an object that do
       inner_square : (l : ℕ) → l < length D.sings → (t : ℕ) → t < r.count → suc t < r.count → goes t ≡ l → goes (suc t) ≡ l

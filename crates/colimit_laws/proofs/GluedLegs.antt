@@ -18,6 +18,7 @@ use Rattle.diagram_terms.specs.Shapes.{Shape, ShapeArrow, IsShape, heights_of, o
 use Rattle.diagram_terms.specs.Cocones.{Cocone, IsPlainCocone}
 use Rattle.diagram_terms.specs.ClassParts.{part}
 use Rattle.diagram_terms.specs.Colimits.{cocone_at, part_leg, apex_reg, glued_apex, glued_leg, glued}
+use Rattle.diagram_terms.proofs.Squares.{commutes_by}
 use Rattle.colimit_laws.proofs.Names.{IsInPart}
 use Rattle.colimit_laws.proofs.Ranked.{row-len, row-mono, row-below, row-dual_within, rank-below, has_rank, of_rank-low, of_rank-high, row-along, rank-along, arrow-of}
 use Rattle.colimit_laws.proofs.Parts.{sing-in_part}
@@ -91,24 +92,23 @@ module _ (d : ℕ) (S : Shape (suc d)) (vS : IsShape (suc d) S) (r : Ranks) (ar 
         let a = leg-dual d S r parts x k in
         let b = leg-dual d S r parts x (suc k) in
         let full = row-dual_within d S vS r ar x (suc k) lx in
-        record {
-          empty = λ e. fwd-past k l ∙ apex-legs_meet d S vS r ar parts good k l x lx (omega arith) ∙ sym (bwd-past k l);
-          first = λ i e m.
-              let start : dual (ranks_of r x) k ≡ i = omega arith in
-              let p = has_rank d S vS r ar x i k lx (omega arith) (omega arith) in
-              fwd-past k l ∙ apex-fwd_from d S vS r ar parts good k l x lx (omega arith)
-              ∙ ap (enter d S vS r ar parts k (good k l) x) start ∙ through_fwd k l i (omega arith) p;
-          last = λ i m e.
-              let end : dual (ranks_of r x) (suc k) - 1 ≡ i = omega arith in
-              let p = has_rank d S vS r ar x i k lx (omega arith) (omega arith) in
-              bwd-past k l ∙ apex-bwd_from d S vS r ar parts good k l x lx (omega arith)
-              ∙ ap (leave d S vS r ar parts k (good k l) x) end ∙ through_bwd k l i (omega arith) p;
-          inner = λ i m u.
-              let p = has_rank d S vS r ar x i k lx (omega arith) (omega arith) in
-              let q = has_rank d S vS r ar x (suc i) k lx (omega arith) (omega arith) in
-              sym (through_bwd k l i (omega arith) p) ∙ leave-next d S vS r ar parts k (good k l) x i lx (omega arith) (omega arith)
-              ∙ through_fwd k l (suc i) (omega arith) q;
-        }
+        commutes_by d X A (leg_of x) k
+        (λ e. fwd-past k l ∙ apex-legs_meet d S vS r ar parts good k l x lx (omega arith) ∙ sym (bwd-past k l))
+        (λ i e m.
+        let start : dual (ranks_of r x) k ≡ i = omega arith in
+        let p = has_rank d S vS r ar x i k lx (omega arith) (omega arith) in
+        fwd-past k l ∙ apex-fwd_from d S vS r ar parts good k l x lx (omega arith)
+        ∙ ap (enter d S vS r ar parts k (good k l) x) start ∙ through_fwd k l i (omega arith) p)
+        (λ i m e.
+        let end : dual (ranks_of r x) (suc k) - 1 ≡ i = omega arith in
+        let p = has_rank d S vS r ar x i k lx (omega arith) (omega arith) in
+        bwd-past k l ∙ apex-bwd_from d S vS r ar parts good k l x lx (omega arith)
+        ∙ ap (leave d S vS r ar parts k (good k l) x) end ∙ through_bwd k l i (omega arith) p)
+        (λ i m u.
+        let p = has_rank d S vS r ar x i k lx (omega arith) (omega arith) in
+        let q = has_rank d S vS r ar x (suc i) k lx (omega arith) (omega arith) in
+        sym (through_bwd k l i (omega arith) p) ∙ leave-next d S vS r ar parts k (good k l) x i lx (omega arith) (omega arith)
+        ∙ through_fwd k l (suc i) (omega arith) q)
 
     pub leg-valid : ValidArrow (suc d) X A (leg_of x)
     leg-valid =

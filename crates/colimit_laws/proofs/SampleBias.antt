@@ -17,6 +17,7 @@ use Rattle.diagram_terms.specs.Ranks.{rank_at, HasRank, IsRanked}
 use Rattle.diagram_terms.specs.Cocones.{Cocone, leg, IsCocone, IsFactor}
 use Rattle.diagram_terms.specs.ClassParts.{names, place, part}
 use Rattle.diagram_terms.specs.Colimits.{cocone_at, glued, glued_apex, glued_leg, IsLabelColimit, IsColimit}
+use Rattle.diagram_terms.proofs.Squares.{commutes_by}
 use Rattle.colimit_laws.proofs.Membership.{contains_cases, contains_head, contains_tail, contains_none}
 use Rattle.colimit_laws.proofs.Samples.{x, p, q, pair, loop, missing, apart, earlier, later, one_label}
 use Rattle.colimit_laws.proofs.SampleOrders.{H, either, alone, none_reached}
@@ -87,12 +88,11 @@ valid_missing l = record {
     squares : (k : ℕ) → k < 1 → Commutes 0 (identity_diagram 0 x) (loop l) missing k
     squares zero m =
         let n = dual-nil 1 in
-        record {
-          empty = λ e. refl;
-          first = λ i e a. absurd (omega arith);
-          last = λ i a e. absurd (omega arith);
-          inner = λ i a e. absurd (omega arith);
-        }
+        commutes_by 0 (identity_diagram 0 x) (loop l) missing zero
+        (λ e. refl)
+        (λ i e a. absurd (omega arith))
+        (λ i a e. absurd (omega arith))
+        (λ i a e. absurd (omega arith))
     squares (suc k) m = absurd (omega arith)
 
 plain_missing : PlainArrow 1 missing

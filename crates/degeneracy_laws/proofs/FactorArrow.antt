@@ -9,6 +9,7 @@ use Rattle.diagram_terms.specs.Least.{Leg, Factors}
 use Rattle.diagram_terms.proofs.Duals.{dual-after, in_fibre, length-after, get-after, same_numbers}
 use Rattle.diagram_terms.proofs.Injections.{mono_through}
 use Rattle.diagram_terms.proofs.Parts.{comp-heights, comp-regs_len, comp-sings_len, comp-reg, comp-sing, same_arrows}
+use Rattle.diagram_terms.proofs.Squares.{first_at, last_at, commutes_by}
 use Rattle.map_laws.proofs.Associativity.{associative}
 use Rattle.map_laws.proofs.ValidParts.{dual_within, height_within}
 use Rattle.map_laws.proofs.ValidComposites.{composites_are_valid}
@@ -109,36 +110,35 @@ module _ (d : ℕ) (ih : RivalsFactor d) (S R T : Dia (suc d)) (a e : Arr (suc d
       let g = some_sings.each (no_arr d) i li j lj at in
       ap (λ (t : Arr d). comp d t b) (sym g.composite)
       ∙ sym (associative d _ _ _ _ b (arrow_sing d C i) (arrow_sing d e j) vb g.valid (shape_valid d _ _ _ qj)) in
-      record {
-        empty = λ h.
-            let am : dual a.heights n ≡ dual a.heights (suc n) = sym dc0 ∙ h ∙ dc1 in
-            shapes_are_mono d _ _ _ (arrow_sing d e j) l m qj v0
-            (subst (λ (t : ℕ). ValidArrow d (reg d S t) (sing d R j) m) (sym am) v1) (left ∙ sq.empty am ∙ sym right);
-        first = λ i h p.
-            let ai : dual a.heights n ≡ i = sym dc0 ∙ h in
-            let li : i < length S.sings = omega arith in
-            let at = goes i (omega arith) (omega arith) in
-            let g = some_sings.each (no_arr d) i li j lj at in
-            shapes_are_mono d _ _ _ (arrow_sing d e j) l (comp d (arrow_sing d C i) (fwd d S i)) qj
-            (subst (λ (t : ℕ). ValidArrow d (reg d S t) (sing d R j) l) ai v0)
-            (composites_are_valid d _ _ _ (fwd d S i) (arrow_sing d C i) (r.vS.regs i (omega arith)) (r.vS.sings i li) (r.vR.sings j lj)
-            (r.vS.fwds i li) g.valid)
-            (left ∙ sq.first i ai (omega arith) ∙ beyond i (reg d S i) (fwd d S i) li at (r.vS.fwds i li));
-        last = λ i p h.
-            let ai : suc i ≡ dual a.heights (suc n) = h ∙ dc1 in
-            let li : i < length S.sings = omega arith in
-            let at = goes i (omega arith) (omega arith) in
-            let g = some_sings.each (no_arr d) i li j lj at in
-            shapes_are_mono d _ _ _ (arrow_sing d e j) m (comp d (arrow_sing d C i) (bwd d S i)) qj
-            (subst (λ (t : ℕ). ValidArrow d (reg d S t) (sing d R j) m) (sym ai) v1)
-            (composites_are_valid d _ _ _ (bwd d S i) (arrow_sing d C i) (r.vS.regs (suc i) li) (r.vS.sings i li) (r.vR.sings j lj)
-            (r.vS.bwds i li) g.valid)
-            (right ∙ sq.last i (omega arith) ai ∙ beyond i (reg d S (suc i)) (bwd d S i) li at (r.vS.bwds i li));
-        inner = λ i p h. absurd (
-            let k0 = goes i (omega arith) (omega arith) in
-            let k1 = goes (suc i) (omega arith) (omega arith) in
-            let s = r.qa.increasing.increases i (suc i) (omega arith) (let x = r.qa.valid.heights_len in omega arith) in omega arith);
-      }
+      commutes_by d S R C j
+      (λ h.
+      let am : dual a.heights n ≡ dual a.heights (suc n) = sym dc0 ∙ h ∙ dc1 in
+      shapes_are_mono d _ _ _ (arrow_sing d e j) l m qj v0
+      (subst (λ (t : ℕ). ValidArrow d (reg d S t) (sing d R j) m) (sym am) v1) (left ∙ sq.empty am ∙ sym right))
+      (λ i h p.
+      let ai : dual a.heights n ≡ i = sym dc0 ∙ h in
+      let li : i < length S.sings = omega arith in
+      let at = goes i (omega arith) (omega arith) in
+      let g = some_sings.each (no_arr d) i li j lj at in
+      shapes_are_mono d _ _ _ (arrow_sing d e j) l (comp d (arrow_sing d C i) (fwd d S i)) qj
+      (subst (λ (t : ℕ). ValidArrow d (reg d S t) (sing d R j) l) ai v0)
+      (composites_are_valid d _ _ _ (fwd d S i) (arrow_sing d C i) (r.vS.regs i (omega arith)) (r.vS.sings i li) (r.vR.sings j lj)
+      (r.vS.fwds i li) g.valid)
+      (left ∙ first_at sq i ai (omega arith) ∙ beyond i (reg d S i) (fwd d S i) li at (r.vS.fwds i li)))
+      (λ i p h.
+      let ai : suc i ≡ dual a.heights (suc n) = h ∙ dc1 in
+      let li : i < length S.sings = omega arith in
+      let at = goes i (omega arith) (omega arith) in
+      let g = some_sings.each (no_arr d) i li j lj at in
+      shapes_are_mono d _ _ _ (arrow_sing d e j) m (comp d (arrow_sing d C i) (bwd d S i)) qj
+      (subst (λ (t : ℕ). ValidArrow d (reg d S t) (sing d R j) m) (sym ai) v1)
+      (composites_are_valid d _ _ _ (bwd d S i) (arrow_sing d C i) (r.vS.regs (suc i) li) (r.vS.sings i li) (r.vR.sings j lj)
+      (r.vS.bwds i li) g.valid)
+      (right ∙ last_at sq i (omega arith) ai ∙ beyond i (reg d S (suc i)) (bwd d S i) li at (r.vS.bwds i li)))
+      (λ i p h. absurd (
+      let k0 = goes i (omega arith) (omega arith) in
+      let k1 = goes (suc i) (omega arith) (omega arith) in
+      let s = r.qa.increasing.increases i (suc i) (omega arith) (let x = r.qa.valid.heights_len in omega arith) in omega arith))
 
   factor_valid : ValidArrow (suc d) S R C
   factor_valid = record {

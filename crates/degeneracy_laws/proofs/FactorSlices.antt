@@ -11,6 +11,7 @@ use Rattle.diagram_terms.specs.Least.{Leg, FactorsBy, Factors, IsSliceOver, Lead
 use Rattle.diagram_terms.proofs.Duals.{dual_mono, in_fibre}
 use Rattle.diagram_terms.proofs.Injections.{increasing-dual_same, increasing-dual_next, same_place}
 use Rattle.diagram_terms.proofs.Parts.{comp-sing}
+use Rattle.diagram_terms.proofs.Squares.{first_at, last_at}
 use Rattle.map_laws.proofs.Associativity.{associative}
 use Rattle.map_laws.proofs.ValidParts.{dual_within, height_within}
 use Rattle.map_laws.proofs.ValidComposites.{composites_are_valid}
@@ -137,7 +138,7 @@ module _ (d : ℕ) (ih : RivalsFactor d) (S R T : Dia (suc d)) (a e : Arr (suc d
         let ve : ValidArrow d (reg d R i) (reg d T n) (arrow_reg d e n) =
         subst (λ (t : ℕ). ValidArrow d (reg d R t) (reg d T n) (arrow_reg d e n)) low (r.qe.valid.regs n (omega arith)) in
         associative d _ _ _ _ x (fwd d R i) (arrow_sing d e i) p.valid (r.vR.fwds i li) (shape_valid d _ _ _ slice_shape)
-        ∙ ap (λ (t : Arr d). comp d t x) (sym ((r.qe.valid.squares n ln).first i low (omega arith)))
+        ∙ ap (λ (t : Arr d). comp d t x) (sym (first_at (r.qe.valid.squares n ln) i low (omega arith)))
         ∙ sym (associative d _ _ _ _ x (arrow_reg d e n) (fwd d T n) p.valid ve (r.vT.fwds n ln))
         ∙ ap (comp d (fwd d T n)) p.composite
 
@@ -149,7 +150,7 @@ module _ (d : ℕ) (ih : RivalsFactor d) (S R T : Dia (suc d)) (a e : Arr (suc d
         let ve : ValidArrow d (reg d R (suc i)) (reg d T (suc n)) (arrow_reg d e (suc n)) =
         subst (λ (t : ℕ). ValidArrow d (reg d R t) (reg d T (suc n)) (arrow_reg d e (suc n))) high (r.qe.valid.regs (suc n) ln) in
         associative d _ _ _ _ x (bwd d R i) (arrow_sing d e i) p.valid (r.vR.bwds i li) (shape_valid d _ _ _ slice_shape)
-        ∙ ap (λ (t : Arr d). comp d t x) (sym ((r.qe.valid.squares n ln).last i (omega arith) (sym high)))
+        ∙ ap (λ (t : Arr d). comp d t x) (sym (last_at (r.qe.valid.squares n ln) i (omega arith) (sym high)))
         ∙ sym (associative d _ _ _ _ x (arrow_reg d e (suc n)) (bwd d T n) p.valid ve (r.vT.bwds n ln))
         ∙ ap (comp d (bwd d T n)) p.composite
 
@@ -214,7 +215,7 @@ module _ (d : ℕ) (ih : RivalsFactor d) (S R T : Dia (suc d)) (a e : Arr (suc d
                   record {
                     valid = composites_are_valid d _ _ _ x.0 (fwd d R i) (r.vS.regs k (omega arith)) (r.vR.regs i (omega arith))
                         (r.vR.sings i li) vx (r.vR.fwds i li);
-                    composite = enter i n li at x.0 px ∙ (r.qa.valid.squares n ln).first k a0 (omega arith);
+                    composite = enter i n li at x.0 px ∙ first_at (r.qa.valid.squares n ln) k a0 (omega arith);
                   },
                 )
                 | inr z ↦ subst P (sym z) (
@@ -222,7 +223,7 @@ module _ (d : ℕ) (ih : RivalsFactor d) (S R T : Dia (suc d)) (a e : Arr (suc d
                   record {
                     valid = composites_are_valid d _ _ _ y.0 (bwd d R i) (r.vS.regs (suc k) lk) (r.vR.regs (suc i) li)
                         (r.vR.sings i li) vy (r.vR.bwds i li);
-                    composite = leave i n li at y.0 py ∙ (r.qa.valid.squares n ln).last k (omega arith) (sym a1);
+                    composite = leave i n li at y.0 py ∙ last_at (r.qa.valid.squares n ln) k (omega arith) (sym a1);
                   },
                 )
               ]

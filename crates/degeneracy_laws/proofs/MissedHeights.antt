@@ -10,6 +10,7 @@ use Rattle.diagram_terms.specs.Valid.{ValidArrow, Valid}
 use Rattle.diagram_terms.specs.Degeneracy.{DegeneracyByShape}
 use Rattle.diagram_terms.specs.Least.{Leg, FactorsBy, Factors, Hits, IsRegularSlice, LeadsInto}
 use Rattle.diagram_terms.proofs.Injections.{increasing-dual_same, increasing-dual_next}
+use Rattle.diagram_terms.proofs.Squares.{first_at, last_at}
 use Rattle.map_laws.proofs.Associativity.{associative}
 use Rattle.map_laws.proofs.ValidParts.{dual_within, height_within}
 use Rattle.map_laws.proofs.ValidComposites.{composites_are_valid}
@@ -111,14 +112,14 @@ module _ (d : ℕ) (ih : RivalsFactor d) (S R T : Dia (suc d)) (a e : Arr (suc d
   left_over =
       let l = ln in
       let e1 = associative d _ _ _ _ left.c (arrow_reg d e n) (fwd d T n) left.by.valid (r.qe.valid.regs n (omega arith)) (r.vT.fwds n ln) in
-      let e2 = (r.qa.valid.squares n ln).first k low (let h = high in omega arith) in
+      let e2 = first_at (r.qa.valid.squares n ln) k low (let h = high in omega arith) in
       sym e1 ∙ ap (comp d (fwd d T n)) left.by.composite ∙ e2
 
   right_over : comp d E right.c ≡ comp d (arrow_sing d a k) (bwd d S k)
   right_over =
       let e0 = (r.qe.valid.squares n ln).empty missed in
       let e1 = associative d _ _ _ _ right.c (arrow_reg d e (suc n)) (bwd d T n) right.by.valid (shape_valid d _ _ _ e_right) (r.vT.bwds n ln) in
-      let e2 = (r.qa.valid.squares n ln).last k (let l = low in omega arith) (sym high) in
+      let e2 = last_at (r.qa.valid.squares n ln) k (let l = low in omega arith) (sym high) in
       ap (λ (t : Arr d). comp d t right.c) e0 ∙ sym e1 ∙ ap (comp d (bwd d T n)) right.by.composite ∙ e2
 
   -- ---- so S.s(k) lies over that slice too

@@ -86,8 +86,8 @@ module _ (x : Label) where
           let n = dual-nil 1 in
           record {
             empty = λ e. refl;
-            first = λ m e p. absurd (omega arith);
-            last = λ m p e. absurd (omega arith);
+            first = λ p. absurd (omega arith);
+            last = λ p. absurd (omega arith);
             inner = λ m p e. absurd (omega arith);
           }
       squares (suc k) l = absurd (omega arith)

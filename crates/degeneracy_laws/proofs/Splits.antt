@@ -1,6 +1,6 @@
 -- A valid arrow whose heights strictly increase is its simple part followed by its parallel part. So an arrow of the
 -- shape of a degeneracy is one.
-use Rattle.std.proofs.Common.{◌≡◌, ℕ, zero, suc, ◌<◌, ◌≤◌, List, length, get_or, refl, sym, ap, ◌∙◌, subst, arith, inl, inr}
+use Rattle.std.proofs.Common.{◌≡◌, ℕ, zero, suc, ◌-◌, ◌<◌, ◌≤◌, List, length, get_or, refl, sym, ap, ◌∙◌, subst, arith, inl, inr}
 use Rattle.diagram_terms.specs.Family.{Dia, Arr, reg, sing, fwd, bwd, height, arrow_reg, arrow_sing}
 use Rattle.diagram_terms.specs.Dual.{IsIncreasing, IsMonotone, AreBelow, upto, dual, after}
 use Rattle.diagram_terms.specs.Composite.{comp, ident}
@@ -84,8 +84,8 @@ module _ (d : ℕ) (X Y : Dia (suc d)) (f : Arr (suc d))
             let ub2 = neutral_after d _ _ (bwd d X c) vs (vX.bwds c lc) in
             record {
               empty = λ e. absurd (omega arith);
-              first = λ i e p. let ic : i ≡ c = omega arith in cc;
-              last = λ i p e. let ic : i ≡ c = omega arith in cc;
+              first = λ p. cc;
+              last = λ p. let ic : dual S.heights (suc k) - 1 ≡ c = omega arith in cc;
               inner = λ i p e. absurd (omega arith);
             })
         | inr m ↦ (
@@ -94,8 +94,8 @@ module _ (d : ℕ) (X Y : Dia (suc d)) (f : Arr (suc d))
             let b1 = m.bwd_is in
             record {
               empty = λ e. cc;
-              first = λ i e p. absurd (omega arith);
-              last = λ i p e. absurd (omega arith);
+              first = λ p. absurd (omega arith);
+              last = λ p. absurd (omega arith);
               inner = λ i p e. absurd (omega arith);
             })
       ]
@@ -167,12 +167,12 @@ module _ (d : ℕ) (X Y : Dia (suc d)) (f : Arr (suc d))
             let f1 = h.fwd_is in
             let b1 = h.bwd_is in
             let s1 = h.part_is in
-            let e1 = sq.first c refl (omega arith) in
-            let e2 = sq.last c (omega arith) (omega arith) in
+            let e1 = sq.first (omega arith) in
+            let e2 = last_at sq c (omega arith) (omega arith) in
             record {
               empty = λ e. absurd (omega arith);
-              first = λ i e p. let ik : i ≡ k = omega arith in cc;
-              last = λ i p e. let ik : i ≡ k = omega arith in cc;
+              first = λ p. cc;
+              last = λ p. let ik : dual P.heights (suc k) - 1 ≡ k = omega arith in cc;
               inner = λ i p e. absurd (omega arith);
             })
         | inr m ↦ (
@@ -184,8 +184,8 @@ module _ (d : ℕ) (X Y : Dia (suc d)) (f : Arr (suc d))
             let u = neutral_before d _ _ (comp d (fwd d Y k) (arrow_reg d f k)) (from_reg k) (left_way k l) in
             record {
               empty = λ e. absurd (omega arith);
-              first = λ i e p. let ik : i ≡ k = omega arith in cc;
-              last = λ i p e. let ik : i ≡ k = omega arith in cc;
+              first = λ p. cc;
+              last = λ p. let ik : dual P.heights (suc k) - 1 ≡ k = omega arith in cc;
               inner = λ i p e. absurd (omega arith);
             })
       ]

@@ -7,6 +7,7 @@ use Rattle.diagram_terms.specs.Valid.{ValidArrow, Valid}
 use Rattle.diagram_terms.specs.Degeneracy.{Degeneracy, SplitsInto}
 use Rattle.diagram_terms.proofs.Duals.{upto-after}
 use Rattle.diagram_terms.proofs.Parts.{comp-heights, comp-reg, comp-sing, same_arrows, same_diagrams}
+use Rattle.diagram_terms.proofs.Squares.{first_at, last_at}
 use Rattle.map_laws.proofs.ValidParts.{dual_within, height_within}
 use Rattle.map_laws.proofs.ValidComposites.{composites_are_valid}
 use Rattle.map_laws.proofs.Neutral.{neutral_after, neutral_before}
@@ -96,8 +97,8 @@ module _ (d : ℕ) (X Y : Dia (suc d)) (f : Arr (suc d)) (M : Dia (suc d)) (s p 
             let s0 = at_sing c w in
             let s00 : sing d X c ≡ sing d M k = s0.0 ∙ ap (sing d M) at in
             let s01 = s0.1 in
-            let e1 = (q.simple.valid.squares k lm).first c (sym d0) (omega arith) in
-            let e2 = (q.simple.valid.squares k lm).last c (omega arith) (omega arith) in
+            let e1 = first_at (q.simple.valid.squares k lm) c (sym d0) (omega arith) in
+            let e2 = last_at (q.simple.valid.squares k lm) c (omega arith) (omega arith) in
             let u1 = neutral_after d _ _ (fwd d X c) (vX.sings c w) (vX.fwds c w) in
             let u2 = neutral_after d _ _ (bwd d X c) (vX.sings c w) (vX.bwds c w) in
             let e3 : arrow_sing d f c ≡ comp d (arrow_sing d p k) (arrow_sing d s c) =
@@ -122,7 +123,7 @@ module _ (d : ℕ) (X Y : Dia (suc d)) (f : Arr (suc d)) (M : Dia (suc d)) (s p 
             let x1 = ap (reg d X) nx in
             let q0 = parallel-dual d (Degeneracy d) M Y p q.parallel k (omega arith) in
             let q1 = parallel-dual d (Degeneracy d) M Y p q.parallel (suc k) lm in
-            let e1 = (q.parallel.valid.squares k l).first k q0 (omega arith) in
+            let e1 = first_at (q.parallel.valid.squares k l) k q0 (omega arith) in
             let fr = part_reg k (omega arith) in
             let m1 = m.sing_is in
             let m2 = m.fwd_is in

@@ -8,6 +8,7 @@ use Rattle.diagram_terms.specs.Valid.{ValidArrow, Valid, Commutes}
 use Rattle.diagram_terms.proofs.Duals.{dual_mono, dual-lt, fibre_low, fibre_high}
 use Rattle.diagram_terms.proofs.MonotoneParts.{dual-ge, dual_constant}
 use Rattle.diagram_terms.proofs.Parts.{comp-reg, comp-sing}
+use Rattle.diagram_terms.proofs.Squares.{first_at, last_at, commutes_by}
 use Rattle.map_laws.proofs.ValidParts.{dual_within, height_within, composite-dual}
 use Rattle.map_laws.proofs.Associativity.{associative}
 
@@ -95,7 +96,7 @@ module _ (d : ℕ) (X Y Z : Dia (suc d)) (f g : Arr (suc d))
       let r : Arr d = arrow_reg d f (dual g.heights k) in
       let vr = vf.regs (dual g.heights k) (omega arith) in
       let e1 = associative d _ _ _ _ r (arrow_reg d g k) (fwd d Z k) vr (vg.regs k (omega arith)) (vZ.fwds k lk) in
-      let e2 = (vg.squares k lk).first j e l in
+      let e2 = first_at (vg.squares k lk) j e l in
       let e3 = associative d _ _ _ _ (arrow_reg d f j) (fwd d Y j) (arrow_sing d g j) (vf.regs j (omega arith)) (vY.fwds j lj) (vg.sings j lj) in
       e1 ∙ ap (λ (t : Arr d). comp d t r) e2
       ∙ ap (λ (n : ℕ). comp d (comp d (arrow_sing d g j) (fwd d Y j)) (arrow_reg d f n)) e ∙ sym e3
@@ -109,7 +110,7 @@ module _ (d : ℕ) (X Y Z : Dia (suc d)) (f g : Arr (suc d))
       let r : Arr d = arrow_reg d f (dual g.heights (suc k)) in
       let vr = vf.regs (dual g.heights (suc k)) top in
       let e1 = associative d _ _ _ _ r (arrow_reg d g (suc k)) (bwd d Z k) vr (vg.regs (suc k) lk) (vZ.bwds k lk) in
-      let e2 = (vg.squares k lk).last j l e in
+      let e2 = last_at (vg.squares k lk) j l e in
       let e3 = associative d _ _ _ _ (arrow_reg d f (suc j)) (bwd d Y j) (arrow_sing d g j) (vf.regs (suc j) lj) (vY.bwds j lj) (vg.sings j lj) in
       e1 ∙ ap (λ (t : Arr d). comp d t r) e2
       ∙ ap (λ (n : ℕ). comp d (comp d (arrow_sing d g j) (bwd d Y j)) (arrow_reg d f n)) (sym e) ∙ sym e3
@@ -140,7 +141,7 @@ module _ (d : ℕ) (X Y Z : Dia (suc d)) (f g : Arr (suc d))
       let lh : i < length f.heights = let a = vf.heights_len in omega arith in
       let j : ℕ = height d f i in
       let lj : j < length Y.sings = height_within d X Y f vf i li in
-      let e1 = (vf.squares j lj).first i e (fibre_high f.heights vf.monotone i j lh refl) in
+      let e1 = first_at (vf.squares j lj) i e (fibre_high f.heights vf.monotone i j lh refl) in
       let e2 = associative d _ _ _ _ (fwd d X i) (arrow_sing d f i) (arrow_sing d g j) (vX.fwds i li) (vf.sings i li) (vg.sings j lj) in
       ap (λ (t : Arr d). comp d (arrow_sing d g j) t) e1 ∙ e2
       ∙ ap (λ (t : Arr d). comp d t (fwd d X i)) (sym (comp-sing d g f i lf))
@@ -152,7 +153,7 @@ module _ (d : ℕ) (X Y Z : Dia (suc d)) (f g : Arr (suc d))
       let lf : i < length f.sings = let a = vf.sings_len in omega arith in
       let j : ℕ = height d f i in
       let lj : j < length Y.sings = height_within d X Y f vf i li in
-      let e1 = (vf.squares j lj).last i (fibre_low f.heights vf.monotone i j refl) e in
+      let e1 = last_at (vf.squares j lj) i (fibre_low f.heights vf.monotone i j refl) e in
       let e2 = associative d _ _ _ _ (bwd d X i) (arrow_sing d f i) (arrow_sing d g j) (vX.bwds i li) (vf.sings i li) (vg.sings j lj) in
       ap (λ (t : Arr d). comp d (arrow_sing d g j) t) e1 ∙ e2
       ∙ ap (λ (t : Arr d). comp d t (bwd d X i)) (sym (comp-sing d g f i lf))
@@ -256,9 +257,8 @@ module _ (d : ℕ) (X Y Z : Dia (suc d)) (f g : Arr (suc d))
   composite_square k lk =
       let low = composite-dual d X Y Z f g vf vg k in
       let high = composite-dual d X Y Z f g vf vg (suc k) in
-      record {
-        empty = λ e. fwd-composite k lk ∙ square_empty k lk (omega arith) ∙ sym (bwd-composite k lk);
-        first = λ i e l. fwd-composite k lk ∙ square_first k i lk (omega arith) (omega arith);
-        last = λ i l e. bwd-composite k lk ∙ square_last k i lk (omega arith) (omega arith);
-        inner = λ i l e. square_inner k i lk (omega arith) (omega arith);
-      }
+      commutes_by d X Z (comp (suc d) g f) k
+      (λ e. fwd-composite k lk ∙ square_empty k lk (omega arith) ∙ sym (bwd-composite k lk))
+      (λ i e l. fwd-composite k lk ∙ square_first k i lk (omega arith) (omega arith))
+      (λ i l e. bwd-composite k lk ∙ square_last k i lk (omega arith) (omega arith))
+      (λ i l e. square_inner k i lk (omega arith) (omega arith))

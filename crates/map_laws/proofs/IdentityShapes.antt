@@ -7,6 +7,7 @@ use Rattle.diagram_terms.specs.Identity.{IsIdentity}
 use Rattle.diagram_terms.specs.Valid.{ValidArrow, Valid}
 use Rattle.diagram_terms.proofs.Duals.{dual-upto, get-upto, upto-after}
 use Rattle.diagram_terms.proofs.Parts.{comp-from, comp-to, comp-heights, comp-regs_len, comp-sings_len, comp-reg, comp-sing, ident-from, ident-to, ident-heights, ident-regs_len, ident-sings_len, ident-reg, ident-sing, same_ends, same_arrows, same_diagrams}
+use Rattle.diagram_terms.proofs.Squares.{first_at, last_at}
 use Rattle.map_laws.specs.Laws.{IdentitiesHaveShape, ShapeMeansIdentity, IdentitiesCompose}
 use Rattle.map_laws.proofs.ValidParts.{dual_within, height_within}
 use Rattle.map_laws.proofs.Neutral.{neutral_after, neutral_before}
@@ -81,7 +82,7 @@ module _ (d : ℕ) (ih : ShapeMeansIdentity d) (X Y : Dia (suc d)) (f : Arr (suc
       let n = identity_length d X Y f vf jf in
       let low = identity-dual d X Y f vf jf k (omega arith) in
       let high = identity-dual d X Y f vf jf (suc k) l in
-      let e = (vf.squares k (omega arith)).first k low (omega arith) in
+      let e = first_at (vf.squares k (omega arith)) k low (omega arith) in
       let u = neutral_before d _ _ (fwd d Y k) (vY.regs k (omega arith)) (vY.fwds k (omega arith)) in
       let w = neutral_after d _ _ (fwd d X k) (vX.sings k l) (vX.fwds k l) in
       let r = at_reg k (omega arith) in
@@ -94,7 +95,7 @@ module _ (d : ℕ) (ih : ShapeMeansIdentity d) (X Y : Dia (suc d)) (f : Arr (suc
       let n = identity_length d X Y f vf jf in
       let low = identity-dual d X Y f vf jf k (omega arith) in
       let high = identity-dual d X Y f vf jf (suc k) l in
-      let e = (vf.squares k (omega arith)).last k (omega arith) (sym high) in
+      let e = last_at (vf.squares k (omega arith)) k (omega arith) (sym high) in
       let u = neutral_before d _ _ (bwd d Y k) (vY.regs (suc k) (omega arith)) (vY.bwds k (omega arith)) in
       let w = neutral_after d _ _ (bwd d X k) (vX.sings k l) (vX.bwds k l) in
       let r = at_reg (suc k) l in

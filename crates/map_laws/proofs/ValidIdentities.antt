@@ -1,7 +1,7 @@
 -- The identity of a valid diagram is valid.
-use Rattle.std.proofs.Common.{ℕ, zero, suc, ◌<◌, ◌≡◌, List, length, refl, sym, ◌∙◌, subst, arith, inl}
+use Rattle.std.proofs.Common.{ℕ, zero, suc, ◌-◌, ◌<◌, ◌≡◌, List, length, refl, sym, ◌∙◌, subst, arith, inl}
 use Rattle.diagram_terms.specs.Family.{Dia, reg, sing, fwd, bwd}
-use Rattle.diagram_terms.specs.Dual.{IsMonotone, AreBelow}
+use Rattle.diagram_terms.specs.Dual.{IsMonotone, AreBelow, dual}
 use Rattle.diagram_terms.specs.Composite.{ident}
 use Rattle.diagram_terms.specs.Valid.{Valid, ValidArrow, Commutes}
 use Rattle.diagram_terms.proofs.Duals.{mono-upto, below-upto}
@@ -24,13 +24,12 @@ module _ (d : ℕ) (ih : IdentitiesAreValid d) (X : Dia (suc d)) (v : Valid (suc
       let r1 = ident-reg d X (suc k) (omega arith) in
       record {
         empty = λ e. absurd (omega arith);
-        first = λ i e p.
-            let same : i ≡ k = omega arith in
+        first = λ p.
             let a = neutral_before d _ _ (fwd d X k) (v.regs k (omega arith)) (v.fwds k l) in
             let b = neutral_after d _ _ (fwd d X k) (v.sings k l) (v.fwds k l) in
             cc;
-        last = λ i p e.
-            let same : i ≡ k = omega arith in
+        last = λ p.
+            let same : dual (ident (suc d) X).heights (suc k) - 1 ≡ k = omega arith in
             let a = neutral_before d _ _ (bwd d X k) (v.regs (suc k) l) (v.bwds k l) in
             let b = neutral_after d _ _ (bwd d X k) (v.sings k l) (v.bwds k l) in
             cc;

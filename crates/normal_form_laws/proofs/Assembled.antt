@@ -14,6 +14,7 @@ use Rattle.map_laws.proofs.IdentityShapes.{shape_means_identity}
 use Rattle.degeneracy_laws.proofs.ShapeComposites.{shape_valid}
 use Rattle.diagram_terms.specs.Factors.{factor_through}
 use Rattle.diagram_terms.specs.NormalForms.{Parts, reg_part, sing_part, fwd_way, bwd_way, fwd_between, bwd_between, assembled}
+use Rattle.diagram_terms.proofs.Squares.{commutes_by}
 use Rattle.normal_form_laws.proofs.AssembledParts.{stand, stand_within, stand-dual, assembled-regs_len, assembled-sings_len, assembled-fwds_len, assembled-bwds_len, assembled-reg, assembled-sing, assembled-fwd, assembled-bwd, arrow-regs_len, arrow-sings_len, arrow-reg, arrow-sing}
 use Rattle.normal_form_laws.proofs.BuiltFactors.{built_factor}
 use Rattle.normal_form_laws.proofs.Groups.{same_in_group}
@@ -134,31 +135,30 @@ module _ (d : ℕ) (T : Dia (suc d)) (G : Leg (suc d) → Type 0) (p : Parts d) 
   assembled_square k l =
       let mono = increasing_mono kept r.increasing in
       let top = dual-le-length kept (suc k) in
-      record {
-        empty = λ e. fwd_arrow k l ∙ fwd_way_flat k l e ∙ sym (bwd_way_flat k l e) ∙ sym (bwd_arrow k l);
-        first = λ i e q.
-            let li : i < length kept = omega arith in
-            let at : get_or kept i 0 ≡ k = in_fibre kept mono i k (omega arith) q in
-            let a1 = fwd_arrow k l in
-            let a2 = (r.fwd_by k l).composite in
-            let a3 = arrow-sing d T p kept i li in
-            let a4 = assembled-fwd d T p kept i li in
-            a1 ∙ sym a2 ∙ ap (λ (m : ℕ). comp d (sing_part d p m).arrow (fwd_between d T p m)) (sym at)
-            ∙ ap (λ (t : Arr d). comp d t (fwd_between d T p (get_or kept i 0))) (sym a3) ∙ ap (comp d (arrow_sing d D i)) (sym a4);
-        last = λ i q e.
-            let li : i < length kept = omega arith in
-            let at : get_or kept i 0 ≡ k = in_fibre kept mono i k q (omega arith) in
-            let a1 = bwd_arrow k l in
-            let a2 = (r.bwd_by k l).composite in
-            let a3 = arrow-sing d T p kept i li in
-            let a4 = assembled-bwd d T p kept i li in
-            a1 ∙ sym a2 ∙ ap (λ (m : ℕ). comp d (sing_part d p m).arrow (bwd_between d T p m)) (sym at)
-            ∙ ap (λ (t : Arr d). comp d t (bwd_between d T p (get_or kept i 0))) (sym a3) ∙ ap (comp d (arrow_sing d D i)) (sym a4);
-        inner = λ i q e. absurd (
-            let a = in_fibre kept mono i k q (omega arith) in
-            let b = in_fibre kept mono (suc i) k (omega arith) e in
-            let c = r.increasing.increases i (suc i) (omega arith) (omega arith) in omega arith);
-      }
+      commutes_by d N T D k
+      (λ e. fwd_arrow k l ∙ fwd_way_flat k l e ∙ sym (bwd_way_flat k l e) ∙ sym (bwd_arrow k l))
+      (λ i e q.
+      let li : i < length kept = omega arith in
+      let at : get_or kept i 0 ≡ k = in_fibre kept mono i k (omega arith) q in
+      let a1 = fwd_arrow k l in
+      let a2 = (r.fwd_by k l).composite in
+      let a3 = arrow-sing d T p kept i li in
+      let a4 = assembled-fwd d T p kept i li in
+      a1 ∙ sym a2 ∙ ap (λ (m : ℕ). comp d (sing_part d p m).arrow (fwd_between d T p m)) (sym at)
+      ∙ ap (λ (t : Arr d). comp d t (fwd_between d T p (get_or kept i 0))) (sym a3) ∙ ap (comp d (arrow_sing d D i)) (sym a4))
+      (λ i q e.
+      let li : i < length kept = omega arith in
+      let at : get_or kept i 0 ≡ k = in_fibre kept mono i k q (omega arith) in
+      let a1 = bwd_arrow k l in
+      let a2 = (r.bwd_by k l).composite in
+      let a3 = arrow-sing d T p kept i li in
+      let a4 = assembled-bwd d T p kept i li in
+      a1 ∙ sym a2 ∙ ap (λ (m : ℕ). comp d (sing_part d p m).arrow (bwd_between d T p m)) (sym at)
+      ∙ ap (λ (t : Arr d). comp d t (bwd_between d T p (get_or kept i 0))) (sym a3) ∙ ap (comp d (arrow_sing d D i)) (sym a4))
+      (λ i q e. absurd (
+      let a = in_fibre kept mono i k q (omega arith) in
+      let b = in_fibre kept mono (suc i) k (omega arith) e in
+      let c = r.increasing.increases i (suc i) (omega arith) (omega arith) in omega arith))
 
   pub arrow_valid : ValidArrow (suc d) N T D
   arrow_valid =

@@ -16,6 +16,7 @@ use Rattle.map_laws.proofs.ValidParts.{dual_within, height_within}
 use Rattle.map_laws.proofs.ValidComposites.{composites_are_valid}
 use Rattle.degeneracy_laws.proofs.Cancellation.{shapes_are_mono}
 use Rattle.diagram_terms.specs.Factors.{regular_over, factor_through}
+use Rattle.diagram_terms.proofs.Squares.{first_at, last_at, commutes_by}
 use Rattle.normal_form_laws.proofs.Groups.{same_in_group}
 use Rattle.normal_form_laws.proofs.FactorParts.{factor-heights_len, factor-height, factor-regs_len, factor-reg, factor-sings_len, factor-sing, over_within, over-dual}
 
@@ -173,7 +174,7 @@ module _ (d : ℕ) (W R T : Dia (suc d)) (f e : Arr (suc d)) (r : FactorSlices d
         let ve : ValidArrow d (reg d R j) (reg d T n) (arrow_reg d e n) =
         subst (λ (t : ℕ). ValidArrow d (reg d R t) (reg d T n) (arrow_reg d e n)) low (r.qe.valid.regs n (omega arith)) in
         associative d _ _ _ _ (arrow_reg d C j) (fwd d R j) (arrow_sing d e j) p.valid (r.vR.fwds j lj) (r.qe.valid.sings j lj)
-        ∙ ap (λ (t : Arr d). comp d t (arrow_reg d C j)) (sym ((r.qe.valid.squares n ln).first j low (omega arith)))
+        ∙ ap (λ (t : Arr d). comp d t (arrow_reg d C j)) (sym (first_at (r.qe.valid.squares n ln) j low (omega arith)))
         ∙ sym (associative d _ _ _ _ (arrow_reg d C j) (arrow_reg d e n) (fwd d T n) p.valid ve (r.vT.fwds n ln))
         ∙ ap (comp d (fwd d T n)) p.composite
 
@@ -184,7 +185,7 @@ module _ (d : ℕ) (W R T : Dia (suc d)) (f e : Arr (suc d)) (r : FactorSlices d
         let ve : ValidArrow d (reg d R (suc j)) (reg d T (suc n)) (arrow_reg d e (suc n)) =
         subst (λ (t : ℕ). ValidArrow d (reg d R t) (reg d T (suc n)) (arrow_reg d e (suc n))) high (r.qe.valid.regs (suc n) ln) in
         associative d _ _ _ _ (arrow_reg d C (suc j)) (bwd d R j) (arrow_sing d e j) p.valid (r.vR.bwds j lj) (r.qe.valid.sings j lj)
-        ∙ ap (λ (t : Arr d). comp d t (arrow_reg d C (suc j))) (sym ((r.qe.valid.squares n ln).last j (omega arith) (sym high)))
+        ∙ ap (λ (t : Arr d). comp d t (arrow_reg d C (suc j))) (sym (last_at (r.qe.valid.squares n ln) j (omega arith) (sym high)))
         ∙ sym (associative d _ _ _ _ (arrow_reg d C (suc j)) (arrow_reg d e (suc n)) (bwd d T n) p.valid ve (r.vT.bwds n ln))
         ∙ ap (comp d (bwd d T n)) p.composite
 
@@ -229,35 +230,34 @@ module _ (d : ℕ) (W R T : Dia (suc d)) (f e : Arr (suc d)) (r : FactorSlices d
         → ValidArrow d (reg d W (suc i)) (sing d R j) (comp d (arrow_sing d C i) (bwd d W i)) =
         λ i li at. composites_are_valid d _ _ _ (bwd d W i) (arrow_sing d C i) (r.vW.regs (suc i) li) (r.vW.sings i li) (r.vR.sings j lj)
         (r.vW.bwds i li) (slice_at i li at).valid in
-        record {
-          empty = λ h.
-              let am : dual f.heights n ≡ dual f.heights (suc n) = sym dc0 ∙ h ∙ dc1 in
-              shapes_are_mono d _ _ _ (arrow_sing d e j) l m qj v0
-              (subst (λ (t : ℕ). ValidArrow d (reg d W t) (sing d R j) m) (sym am) v1) (enter ∙ sq.empty am ∙ sym leave);
-          first = λ i h p.
-              let ai : dual f.heights n ≡ i = sym dc0 ∙ h in
-              let li : i < length W.sings = omega arith in
-              let at = goes i (omega arith) (omega arith) in
-              shapes_are_mono d _ _ _ (arrow_sing d e j) l (comp d (arrow_sing d C i) (fwd d W i)) qj
-              (subst (λ (t : ℕ). ValidArrow d (reg d W t) (sing d R j) l) ai v0) (along_fwd i li at)
-              (enter ∙ sq.first i ai (omega arith) ∙ sym (beyond i (reg d W i) (fwd d W i) li at (r.vW.fwds i li)));
-          last = λ i p h.
-              let ai : suc i ≡ dual f.heights (suc n) = h ∙ dc1 in
-              let li : i < length W.sings = omega arith in
-              let at = goes i (omega arith) (omega arith) in
-              shapes_are_mono d _ _ _ (arrow_sing d e j) m (comp d (arrow_sing d C i) (bwd d W i)) qj
-              (subst (λ (t : ℕ). ValidArrow d (reg d W t) (sing d R j) m) (sym ai) v1) (along_bwd i li at)
-              (leave ∙ sq.last i (omega arith) ai ∙ sym (beyond i (reg d W (suc i)) (bwd d W i) li at (r.vW.bwds i li)));
-          inner = λ i p h.
-              let li : suc i < length W.sings = omega arith in
-              let k0 = goes i (omega arith) (omega arith) in
-              let k1 = goes (suc i) (omega arith) (omega arith) in
-              shapes_are_mono d _ _ _ (arrow_sing d e j) (comp d (arrow_sing d C i) (bwd d W i))
-              (comp d (arrow_sing d C (suc i)) (fwd d W (suc i))) qj (along_bwd i (omega arith) k0) (along_fwd (suc i) li k1)
-              (beyond i (reg d W (suc i)) (bwd d W i) (omega arith) k0 (r.vW.bwds i (omega arith))
-              ∙ sq.inner i (omega arith) (omega arith)
-              ∙ sym (beyond (suc i) (reg d W (suc i)) (fwd d W (suc i)) li k1 (r.vW.fwds (suc i) li)));
-        }
+        commutes_by d W R C j
+        (λ h.
+        let am : dual f.heights n ≡ dual f.heights (suc n) = sym dc0 ∙ h ∙ dc1 in
+        shapes_are_mono d _ _ _ (arrow_sing d e j) l m qj v0
+        (subst (λ (t : ℕ). ValidArrow d (reg d W t) (sing d R j) m) (sym am) v1) (enter ∙ sq.empty am ∙ sym leave))
+        (λ i h p.
+        let ai : dual f.heights n ≡ i = sym dc0 ∙ h in
+        let li : i < length W.sings = omega arith in
+        let at = goes i (omega arith) (omega arith) in
+        shapes_are_mono d _ _ _ (arrow_sing d e j) l (comp d (arrow_sing d C i) (fwd d W i)) qj
+        (subst (λ (t : ℕ). ValidArrow d (reg d W t) (sing d R j) l) ai v0) (along_fwd i li at)
+        (enter ∙ first_at sq i ai (omega arith) ∙ sym (beyond i (reg d W i) (fwd d W i) li at (r.vW.fwds i li))))
+        (λ i p h.
+        let ai : suc i ≡ dual f.heights (suc n) = h ∙ dc1 in
+        let li : i < length W.sings = omega arith in
+        let at = goes i (omega arith) (omega arith) in
+        shapes_are_mono d _ _ _ (arrow_sing d e j) m (comp d (arrow_sing d C i) (bwd d W i)) qj
+        (subst (λ (t : ℕ). ValidArrow d (reg d W t) (sing d R j) m) (sym ai) v1) (along_bwd i li at)
+        (leave ∙ last_at sq i (omega arith) ai ∙ sym (beyond i (reg d W (suc i)) (bwd d W i) li at (r.vW.bwds i li))))
+        (λ i p h.
+        let li : suc i < length W.sings = omega arith in
+        let k0 = goes i (omega arith) (omega arith) in
+        let k1 = goes (suc i) (omega arith) (omega arith) in
+        shapes_are_mono d _ _ _ (arrow_sing d e j) (comp d (arrow_sing d C i) (bwd d W i))
+        (comp d (arrow_sing d C (suc i)) (fwd d W (suc i))) qj (along_bwd i (omega arith) k0) (along_fwd (suc i) li k1)
+        (beyond i (reg d W (suc i)) (bwd d W i) (omega arith) k0 (r.vW.bwds i (omega arith))
+        ∙ sq.inner i (omega arith) (omega arith)
+        ∙ sym (beyond (suc i) (reg d W (suc i)) (fwd d W (suc i)) li k1 (r.vW.fwds (suc i) li))))
 
   -- ---- the factor
 

@@ -109,8 +109,8 @@ module _ (d : ℕ) (M : Dia d) (vM : Valid d M) where
             let z = zero_dual (suc k) in
             record {
               empty = λ e. forth k l ∙ sym (back k l);
-              first = λ i e q. absurd (omega arith);
-              last = λ i q e. absurd (omega arith);
+              first = λ q. absurd (omega arith);
+              last = λ q. absurd (omega arith);
               inner = λ i q e. absurd (omega arith);
             };
       } in

@@ -13,6 +13,7 @@ use Rattle.diagram_terms.proofs.Parts.{comp-heights, comp-regs_len, comp-sings_l
 use Rattle.map_laws.proofs.ValidParts.{dual_within, height_within}
 use Rattle.diagram_terms.specs.SliceMaps.{on_slices, on_arrow_slices, on_leg}
 use Rattle.diagram_terms.specs.PlainForms.{PlainReduced}
+use Rattle.diagram_terms.proofs.Squares.{first_at, last_at, commutes_by}
 
 -- b is the image of a leg of which G speaks
 abbrev pub IsImageOf : (d e : ℕ) → (Dia d → Dia e) → (Arr d → Arr e) → (Leg d → Type 0) → Leg e → Type 0
@@ -167,12 +168,11 @@ module _ (d e : ℕ) (o : Dia d → Dia e) (a : Arr d → Arr e) where
       image_square m l =
           let sq = vf.squares m l in
           let w = dual_within d X Y f vf (suc m) in
-          record {
-            empty = λ h. along_target_fwd m l ∙ ap a (sq.empty h) ∙ sym (along_target_bwd m l);
-            first = λ i h p. along_target_fwd m l ∙ ap a (sq.first i h p) ∙ sym (along_source_fwd i (omega arith));
-            last = λ i p h. along_target_bwd m l ∙ ap a (sq.last i p h) ∙ sym (along_source_bwd i (omega arith));
-            inner = λ i p h. along_source_bwd i (omega arith) ∙ ap a (sq.inner i p h) ∙ sym (along_source_fwd (suc i) (omega arith));
-          }
+          commutes_by e (O X) (O Y) (A f) m
+          (λ h. along_target_fwd m l ∙ ap a (sq.empty h) ∙ sym (along_target_bwd m l))
+          (λ i h p. along_target_fwd m l ∙ ap a (first_at sq i h p) ∙ sym (along_source_fwd i (omega arith)))
+          (λ i p h. along_target_bwd m l ∙ ap a (last_at sq i p h) ∙ sym (along_source_bwd i (omega arith)))
+          (λ i p h. along_source_bwd i (omega arith) ∙ ap a (sq.inner i p h) ∙ sym (along_source_fwd (suc i) (omega arith)))
 
       pub next_arrows : ValidArrow (suc e) (O X) (O Y) (A f)
       next_arrows =

@@ -194,8 +194,8 @@ valid_e = record {
         let n = dual-nil 1 in
         record {
           empty = λ h. refl;
-          first = λ m h p. absurd (omega arith);
-          last = λ m p h. absurd (omega arith);
+          first = λ p. absurd (omega arith);
+          last = λ p. absurd (omega arith);
           inner = λ m p h. absurd (omega arith);
         }
     squares (suc k) l = absurd (omega arith)

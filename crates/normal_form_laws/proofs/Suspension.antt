@@ -12,6 +12,7 @@ use Rattle.diagram_terms.specs.Degeneracy.{DegeneracyByShape}
 use Rattle.diagram_terms.proofs.Duals.{dual-nil, dual_yes, dual_no}
 use Rattle.diagram_terms.proofs.Injections.{increasing_mono}
 use Rattle.diagram_terms.specs.Suspension.{suspended, suspended_arrow, north, south, raised, ends_of}
+use Rattle.diagram_terms.proofs.Squares.{commutes_by}
 use Rattle.normal_form_laws.specs.Carried.{SuspensionCarriesOver}
 use Rattle.normal_form_laws.proofs.Carried.{carries_over}
 use Rattle.normal_form_laws.proofs.ImageParts.{KeepsAll}
@@ -98,14 +99,13 @@ module _ (x y : Label) (f : Ends) (v : ValidArrow zero x y f) where
   image_squares zero l =
       let low = dual-low in
       let high = dual-high in
-      record {
-        empty = λ e. absurd (omega arith);
-        first = λ i e p. (let z : i ≡ 0 = omega arith in
-            rw z (ap (λ (t : Label). ends_of north (raised t)) (sym v.to)));
-        last = λ i p e. (let z : i ≡ 0 = omega arith in
-            rw z (ap (λ (t : Label). ends_of south (raised t)) (sym v.to)));
-        inner = λ i p e. absurd (omega arith);
-      }
+      commutes_by 0 X Y F zero
+      (λ e. absurd (omega arith))
+      (λ i e p. (let z : i ≡ 0 = omega arith in
+      rw z (ap (λ (t : Label). ends_of north (raised t)) (sym v.to))))
+      (λ i p e. (let z : i ≡ 0 = omega arith in
+      rw z (ap (λ (t : Label). ends_of south (raised t)) (sym v.to))))
+      (λ i p e. absurd (omega arith))
   image_squares (suc k) l = absurd (omega arith)
 
   image_valid : ValidArrow 1 X Y F

@@ -11,6 +11,7 @@ use Rattle.diagram_terms.specs.Regions.{Reg, reg_region, sing_region}
 use Rattle.diagram_terms.specs.ClosedRegions.{IsClosedRegion}
 use Rattle.diagram_terms.specs.Preimages.{preimage}
 use Rattle.diagram_terms.specs.Cuts.{cut_arrow, cut_diagram}
+use Rattle.diagram_terms.proofs.Squares.{first_at, last_at, commutes_by}
 use Rattle.region_laws.specs.Laws.{CutsOfArrowsAreValid}
 use Rattle.region_laws.proofs.RegionParts.{preimage-from, preimage-to, preimage-sing}
 use Rattle.region_laws.proofs.PreimageRegions.{interval_within, goes_from, goes_to}
@@ -150,22 +151,21 @@ module _ (d : ℕ) (X Y : Dia (suc d)) (f : Arr (suc d)) (W : Reg (suc d))
       let m1 : a ≤ dual f.heights k = dual_mono f.heights vf.monotone W.from k (omega arith) in
       let m2 : dual f.heights k ≤ dual f.heights (suc k) = dual_mono f.heights vf.monotone k (suc k) (omega arith) in
       let m3 : dual f.heights (suc k) ≤ dual f.heights W.to = dual_mono f.heights vf.monotone (suc k) W.to l in
-      record {
-        empty = λ p. left_cut j k e l ∙ ap (λ (g : Arr d). cut_arrow d g R) (s.empty (omega arith)) ∙ sym (right_cut j k e l);
-        first = λ i p q.
-            let t : ℕ = a + i in
-            left_cut j k e l ∙ ap (λ (g : Arr d). cut_arrow d g R) (s.first t (omega arith) (omega arith))
-            ∙ sym (enter_cut i t k refl (omega arith) (in_fibre f.heights vf.monotone t k (omega arith) (omega arith)));
-        last = λ i p q.
-            let t : ℕ = a + i in
-            right_cut j k e l ∙ ap (λ (g : Arr d). cut_arrow d g R) (s.last t (omega arith) (omega arith))
-            ∙ sym (leave_cut i t k refl (omega arith) (in_fibre f.heights vf.monotone t k (omega arith) (omega arith)));
-        inner = λ i p q.
-            let t : ℕ = a + i in
-            leave_cut i t k refl (omega arith) (in_fibre f.heights vf.monotone t k (omega arith) (omega arith))
-            ∙ ap (λ (g : Arr d). cut_arrow d g R) (s.inner t (omega arith) (omega arith))
-            ∙ sym (enter_cut (suc i) (suc t) k (omega arith) (omega arith) (in_fibre f.heights vf.monotone (suc t) k (omega arith) (omega arith)));
-      }
+      commutes_by d from to part j
+      (λ p. left_cut j k e l ∙ ap (λ (g : Arr d). cut_arrow d g R) (s.empty (omega arith)) ∙ sym (right_cut j k e l))
+      (λ i p q.
+      let t : ℕ = a + i in
+      left_cut j k e l ∙ ap (λ (g : Arr d). cut_arrow d g R) (first_at s t (omega arith) (omega arith))
+      ∙ sym (enter_cut i t k refl (omega arith) (in_fibre f.heights vf.monotone t k (omega arith) (omega arith))))
+      (λ i p q.
+      let t : ℕ = a + i in
+      right_cut j k e l ∙ ap (λ (g : Arr d). cut_arrow d g R) (last_at s t (omega arith) (omega arith))
+      ∙ sym (leave_cut i t k refl (omega arith) (in_fibre f.heights vf.monotone t k (omega arith) (omega arith))))
+      (λ i p q.
+      let t : ℕ = a + i in
+      leave_cut i t k refl (omega arith) (in_fibre f.heights vf.monotone t k (omega arith) (omega arith))
+      ∙ ap (λ (g : Arr d). cut_arrow d g R) (s.inner t (omega arith) (omega arith))
+      ∙ sym (enter_cut (suc i) (suc t) k (omega arith) (omega arith) (in_fibre f.heights vf.monotone (suc t) k (omega arith) (omega arith))))
 
   -- ---- the cut is valid
 

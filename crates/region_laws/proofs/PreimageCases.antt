@@ -11,6 +11,7 @@ use Rattle.map_laws.proofs.ValidParts.{dual_within}
 use Rattle.diagram_terms.specs.Regions.{Reg, reg_region, sing_region}
 use Rattle.diagram_terms.specs.ClosedRegions.{IsClosedRegion}
 use Rattle.diagram_terms.specs.Preimages.{preimage}
+use Rattle.diagram_terms.proofs.Squares.{first_at, last_at}
 use Rattle.region_laws.specs.PreimageCases.{PreimageCases}
 use Rattle.region_laws.specs.Laws.{PreimagesCompose}
 use Rattle.region_laws.proofs.RegionParts.{preimage-sing, preimage-after, preimage-first, preimage-alone}
@@ -105,7 +106,7 @@ module _ (d : ℕ) (compose : PreimagesCompose d) (X Y : Dia (suc d)) (f : Arr (
       let a : dual f.heights W.from ≤ dual f.heights k = dual_mono f.heights vf.monotone W.from k low in
       let b : dual f.heights (suc k) ≤ dual f.heights W.to = dual_mono f.heights vf.monotone (suc k) W.to high in
       sym (left_region k low high)
-      ∙ ap (λ (g : Arr d). preimage d (reg d X (dual f.heights k)) g (sing_region d W k)) ((vf.squares k (square_inside k high)).first i e l)
+      ∙ ap (λ (g : Arr d). preimage d (reg d X (dual f.heights k)) g (sing_region d W k)) (first_at (vf.squares k (square_inside k high)) i e l)
       ∙ ap (λ (n : ℕ). preimage d (reg d X n) (enter_edge d X f i) (sing_region d W k)) e
       ∙ enter_region i k (omega arith) (omega arith) (in_fibre f.heights vf.monotone i k (omega arith) l)
 
@@ -114,7 +115,7 @@ module _ (d : ℕ) (compose : PreimagesCompose d) (X Y : Dia (suc d)) (f : Arr (
       let a : dual f.heights W.from ≤ dual f.heights k = dual_mono f.heights vf.monotone W.from k low in
       let b : dual f.heights (suc k) ≤ dual f.heights W.to = dual_mono f.heights vf.monotone (suc k) W.to high in
       sym (right_region k low high)
-      ∙ ap (λ (g : Arr d). preimage d (reg d X (dual f.heights (suc k))) g (sing_region d W k)) ((vf.squares k (square_inside k high)).last i l e)
+      ∙ ap (λ (g : Arr d). preimage d (reg d X (dual f.heights (suc k))) g (sing_region d W k)) (last_at (vf.squares k (square_inside k high)) i l e)
       ∙ ap (λ (n : ℕ). preimage d (reg d X n) (leave_edge d X f i) (sing_region d W k)) (sym e)
       ∙ leave_region i k (omega arith) (omega arith) (in_fibre f.heights vf.monotone i k l (omega arith))
 

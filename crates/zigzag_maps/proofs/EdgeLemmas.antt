@@ -14,6 +14,7 @@ use Rattle.diagram_terms.proofs.Glue.{arr-arr_tree, dia-fwd, dia-bwd, arr-reg, a
 use Rattle.diagram_terms.specs.Operations.{composite_tree}
 use Rattle.zigzag_maps.specs.Visits.{FitsEnds, square_holds, first_edge, last_edge, edge_before, edge_behind}
 use Rattle.diagram_terms.proofs.NotionsOnTrees.{on_arrow_at}
+use Rattle.diagram_terms.proofs.Squares.{first_at, last_at}
 use Rattle.zigzag_maps.proofs.VisitLemmas.{square_holds_at}
 
 -- ---- the edges
@@ -95,11 +96,11 @@ module _ (d : ℕ) (s t f : Tree) (hs : IsDiagram (suc d) s) (ht : IsDiagram (su
   commutes_from : EdgesAgree s t f k → Commutes d X Y F k
   commutes_from e = record {
     empty = λ z. up _ _ _ _ first_is last_is (sym (edge_at-first s t f k a) ∙ ap (edge_at s t f k a) z ∙ e.last);
-    first = λ i z l. (let m : a ≤ i = omega arith in
-        up _ _ _ _ first_is (before_is i l) (sym (edge_at-first s t f k a) ∙ ap (edge_at s t f k a) z ∙ e.each i m l));
-    last = λ i l z. (let m : i < b = omega arith in
+    first = λ l. up _ _ _ _ first_is (before_is a l) (sym (edge_at-first s t f k a) ∙ e.each a (omega arith) l);
+    last = λ l. (let i : ℕ = b - 1 in
+        let m : i < b = omega arith in
         let n : i + 1 ≡ b = omega arith in
-        sym (up _ _ _ _ (behind_is i m) last_is (sym (edge_at-next s t f k a i l) ∙ ap (edge_at s t f k a) n ∙ e.last)));
+        sym (up _ _ _ _ (behind_is i m) last_is (sym (edge_at-next s t f k a i (omega arith)) ∙ ap (edge_at s t f k a) n ∙ e.last)));
     inner = λ i l m. (let n : i + 1 ≡ suc i = omega arith in
         up _ _ _ _ (behind_is i (omega arith)) (before_is (suc i) m)
         (sym (edge_at-next s t f k a i l) ∙ ap (edge_at s t f k a) n ∙ e.each (suc i) (omega arith) m));
@@ -108,10 +109,10 @@ module _ (d : ℕ) (s t f : Tree) (hs : IsDiagram (suc d) s) (ht : IsDiagram (su
   each_from : Commutes d X Y F k → (i : ℕ) → a ≤ i → i < b → edge_at s t f k a i ≡ edge_before s f i
   each_from c zero l m =
       let z : a ≡ zero = omega arith in
-      ap (edge_at s t f k a) (sym z) ∙ edge_at-first s t f k a ∙ down _ _ _ _ first_is (before_is zero m) (c.first zero z m)
+      ap (edge_at s t f k a) (sym z) ∙ edge_at-first s t f k a ∙ down _ _ _ _ first_is (before_is zero m) (first_at c zero z m)
   each_from c (suc i) l m = elim (cases_lt i a) [
     | inl p ↦ (let z : a ≡ suc i = omega arith in
-        ap (edge_at s t f k a) (sym z) ∙ edge_at-first s t f k a ∙ down _ _ _ _ first_is (before_is (suc i) m) (c.first (suc i) z m))
+        ap (edge_at s t f k a) (sym z) ∙ edge_at-first s t f k a ∙ down _ _ _ _ first_is (before_is (suc i) m) (first_at c (suc i) z m))
     | inr p ↦ (let n : suc i ≡ i + 1 = omega arith in
         ap (edge_at s t f k a) n ∙ edge_at-next s t f k a i p ∙ down _ _ _ _ (behind_is i (omega arith)) (before_is (suc i) m) (c.inner i p m))
   ]
@@ -126,7 +127,7 @@ module _ (d : ℕ) (s t f : Tree) (hs : IsDiagram (suc d) s) (ht : IsDiagram (su
         let y : a ≡ suc i = omega arith in
         ap (edge_at s t f k a) (sym y) ∙ edge_at-first s t f k a ∙ down _ _ _ _ first_is last_is (c.empty (y ∙ sym z)))
     | inr p ↦ (let n : suc i ≡ i + 1 = omega arith in
-        ap (edge_at s t f k a) n ∙ edge_at-next s t f k a i p ∙ sym (down _ _ _ _ last_is (behind_is i (omega arith)) (c.last i p (sym z))))
+        ap (edge_at s t f k a) n ∙ edge_at-next s t f k a i p ∙ sym (down _ _ _ _ last_is (behind_is i (omega arith)) (last_at c i p (sym z))))
   ]
 
   pub holds_at : EdgesAgree s t f k → square_holds s t f k ≡ true
