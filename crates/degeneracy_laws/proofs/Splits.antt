@@ -10,6 +10,7 @@ use Rattle.diagram_terms.specs.Degeneracy.Chain.{none, more}
 use Rattle.diagram_terms.proofs.Duals.{length-upto, dual-upto, get-upto, mono-upto, below-upto, upto-after}
 use Rattle.diagram_terms.proofs.Injections.{increasing-dual_same, increasing-dual_next}
 use Rattle.diagram_terms.proofs.Parts.{comp-heights, comp-regs_len, comp-sings_len, comp-reg, comp-sing, same_arrows}
+use Rattle.diagram_terms.proofs.Squares.{last_at}
 use Rattle.map_laws.proofs.ValidParts.{dual_within, height_within}
 use Rattle.map_laws.proofs.ValidComposites.{composites_are_valid}
 use Rattle.map_laws.proofs.ValidIdentities.{identities_are_valid}

@@ -12,16 +12,16 @@ use Rattle.diagram_terms.specs.Composite.{comp}
 use Rattle.diagram_terms.specs.Valid.{ValidArrow}
 use Rattle.diagram_terms.specs.Decoded.{arr_tree}
 use Rattle.diagram_terms.specs.Values.{tree_of_arrow, trees_of_arrows}
-use Rattle.diagram_terms.specs.Composable.{AreComposable, AreComposableRegs, AreComposableSings}
+use Rattle.diagram_terms.specs.Composable.{LengthsMeet, AreComposableRegs, AreComposableSings}
 use Rattle.diagram_terms.proofs.Decisions.{dual_next}
 use Rattle.diagram_terms.proofs.Duals.{dual-le-length}
 use Rattle.diagram_terms.proofs.Parts.{comp-from, comp-to, comp-heights}
-use Rattle.diagram_terms.proofs.ValueLemmas.{tree_of_arrow-Zero, tree_of_arrow-Zig}
+use Rattle.diagram_terms.proofs.ValuesAsTrees.{tree_of_arrow-Zero, tree_of_arrow-Zig}
 use Rattle.diagram_terms.proofs.HeldArrows.{AreHeldParts, held_arrow, held_length, held_parts, held_ends, no_zig_at_zero, no_pair_above}
 
 -- ---- valid arrows that meet can be composed
 
-pub valid_composable : (d : ℕ) (X Y Z : Dia d) (g f : Arr d) → ValidArrow d Y Z g → ValidArrow d X Y f → AreComposable d g f
+pub valid_composable : (d : ℕ) (X Y Z : Dia d) (g f : Arr d) → ValidArrow d Y Z g → ValidArrow d X Y f → LengthsMeet d g f
 valid_composable zero X Y Z g f vg vf = tt
 valid_composable (suc d) X Y Z g f vg vf =
     let gh = vg.heights_len in
@@ -93,7 +93,7 @@ module _ (d : ℕ) (g f : Arr (suc d)) (second first : List Arrow) (heights : Li
     pub regs_first_at : tree_of_arrow y ≡ arr_tree d (arrow_reg d f (dual g.heights k))
     regs_first_at = held_arrow d first f.regs r.first_is at y (regs_inside k at e) y_is ∙ ap (λ j. arr_tree d (arrow_reg d f j)) at_is
 
-    pub regs_composable_at : AreComposable d (arrow_reg d g k) (arrow_reg d f (dual g.heights k))
+    pub regs_composable_at : LengthsMeet d (arrow_reg d g k) (arrow_reg d f (dual g.heights k))
     regs_composable_at = let n = regs_second_len in r.composable.regs k (omega arith)
 
   pub regs_whole : (k : ℕ) (made : List Arrow) → k ≡ length second → trees_of_arrows made ≡ map (arr_tree d) (tab (made_reg d g f) k)
@@ -125,7 +125,7 @@ module _ (d : ℕ) (g f : Arr (suc d)) (second first : List Arrow) (heights : Li
     pub sings_first_at : tree_of_arrow y ≡ arr_tree d (arrow_sing d f i)
     sings_first_at = held_arrow d first f.sings r.first_is i y l y_is
 
-    pub sings_composable_at : AreComposable d (arrow_sing d g (height d f i)) (arrow_sing d f i)
+    pub sings_composable_at : LengthsMeet d (arrow_sing d g (height d f i)) (arrow_sing d f i)
     sings_composable_at = let n = sings_first_len in r.composable.sings i (omega arith)
 
   pub sings_whole : (k : ℕ) (made : List Arrow) → k ≡ length first → trees_of_arrows made ≡ map (arr_tree d) (tab (made_sing d g f) k)
@@ -139,12 +139,12 @@ pub record ComposableParts (gh : List ℕ) (gr gs : List Arrow) (fh : List ℕ) 
   pub d : ℕ
   pub g : Arr (suc d)
   pub f : Arr (suc d)
-  pub composable : AreComposable (suc d) g f
+  pub composable : LengthsMeet (suc d) g f
   pub second : AreHeldParts d g gh gr gs
   pub first : AreHeldParts d f fh fr fs
 
 module _ (a b : Arrow) (gh : Vec ℕ Global) (gr gs : Vec Arrow Global) (fh : Vec ℕ Global) (fr fs : Vec Arrow Global) (ea : a ≡ arrow.Zig gh gr gs) (eb : b ≡ arrow.Zig fh fr fs) where
-  pub composable_parts : (n : ℕ) (g f : Arr n) → AreComposable n g f → tree_of_arrow a ≡ arr_tree n g → tree_of_arrow b ≡ arr_tree n f
+  pub composable_parts : (n : ℕ) (g f : Arr n) → LengthsMeet n g f → tree_of_arrow a ≡ arr_tree n g → tree_of_arrow b ≡ arr_tree n f
       → ComposableParts gh.items gr.items gs.items fh.items fr.items fs.items
   composable_parts zero g f c p q = absurd (no_zig_at_zero g a gh gr gs ea p)
   composable_parts (suc d) g f c p q = record {
@@ -156,7 +156,7 @@ module _ (a b : Arrow) (gh : Vec ℕ Global) (gr gs : Vec Arrow Global) (fh : Ve
     first = held_parts d f b fh fr fs eb q;
   }
 
-module _ (d : ℕ) (g f : Arr (suc d)) (c : AreComposable (suc d) g f) (gh : List ℕ) (gr gs : List Arrow) (fh : List ℕ) (fr fs : List Arrow)
+module _ (d : ℕ) (g f : Arr (suc d)) (c : LengthsMeet (suc d) g f) (gh : List ℕ) (gr gs : List Arrow) (fh : List ℕ) (fr fs : List Arrow)
     (p : AreHeldParts d g gh gr gs) (q : AreHeldParts d f fh fr fs) where
   pub pass_below : (hs ks : List ℕ) → hs ≡ gh → ks ≡ fh → AreBelow ks (length hs)
   pass_below hs ks e k = record {
@@ -213,7 +213,7 @@ module _ (a b : Arrow) (gh : Vec ℕ Global) (gr gs : Vec Arrow Global) (fh : Ve
     (hs_are : hs.items ≡ after gh1 fh1)
     (rs_are : (d : ℕ) (g f : Arr (suc d)) → AreComposableRegs d g f gr2 fr2 gh2 → trees_of_arrows rs.items ≡ map (arr_tree d) (comp (suc d) g f).regs)
     (ss_are : (d : ℕ) (g f : Arr (suc d)) → AreComposableSings d g f gs2 fs2 fh2 → trees_of_arrows ss.items ≡ map (arr_tree d) (comp (suc d) g f).sings) where
-  pub composite_whole : (n : ℕ) (g f : Arr n) → AreComposable n g f → tree_of_arrow a ≡ arr_tree n g → tree_of_arrow b ≡ arr_tree n f
+  pub composite_whole : (n : ℕ) (g f : Arr n) → LengthsMeet n g f → tree_of_arrow a ≡ arr_tree n g → tree_of_arrow b ≡ arr_tree n f
       → tree_of_arrow (arrow.Zig hs rs ss) ≡ arr_tree n (comp n g f)
   composite_whole zero g f c p q = absurd (no_zig_at_zero g a gh gr gs ea p)
   composite_whole (suc d) g f c p q =

@@ -176,11 +176,11 @@ module _ (d : ℕ) (X Y : Dia (suc d)) (f : Arr (suc d)) (k a b : ℕ) where
   meet_to low h = elim (cases_lt a b) [
     | inl l ↦ full_to l (sym (cond-true (nat_lt a b) full_test empty_test (lt-ltb a b l)) ∙ h)
     | inr l ↦ (let e = (decides _ _).0 (sym (cond-false (nat_lt a b) full_test empty_test (le-ltb a b l)) ∙ h) in record {
-        empty = λ p. e;
-        first = λ m. absurd (omega arith);
-        last = λ m. absurd (omega arith);
-        inner = λ i p q. absurd (omega arith);
-      })
+      empty = λ p. e;
+      first = λ m. absurd (omega arith);
+      last = λ m. absurd (omega arith);
+      inner = λ i p q. absurd (omega arith);
+    })
   ]
 
   meet_from : a ≤ b → CommutesOver d X Y f k a b → meet ≡ true

@@ -21,7 +21,7 @@ use Rattle.diagram_terms.proofs.Glue.{dia-dia_tree, dia_tree-dia}
 use Rattle.diagram_terms.proofs.HeldArrows.{held_arrow, held_length}
 use Rattle.diagram_terms.proofs.HeldDiagrams.{AreHeldSlices, held_diagram, held_diagrams_length, held_slices}
 use Rattle.diagram_terms.proofs.Shapes.{kind-diagram_zero, kind-diagram_above}
-use Rattle.diagram_terms.proofs.ValueLemmas.{tree_of_diagram-Zero, tree_of_diagram-Zig}
+use Rattle.diagram_terms.proofs.ValuesAsTrees.{tree_of_diagram-Zero, tree_of_diagram-Zig}
 use Rattle.diagram_terms.proofs.Visiting.{append_fails, append_passes, under_fails, under_passes, each_fails, each_passes, PassBefore, first_of_three, second_of_three, last_of_three}
 
 -- ---- slices in a list

@@ -14,7 +14,7 @@ use Rattle.diagram_terms.specs.Decoded.{dia, arr}
 use Rattle.diagram_terms.specs.Shape.{IsArrow, IsDiagram, reg_at, sing_at, fwd_at, bwd_at}
 use Rattle.diagram_terms.specs.Dual.{IsMonotone, dual}
 use Rattle.diagram_terms.specs.Valid.{Valid, ValidArrow, ValidZag, ValidZig}
-use Rattle.diagram_terms.specs.Places.{Test, Passes, here, under, at_each, lengths_fit, square_commutes, arrow_tests, leg_tests, tests_of, IsFirstFailure, first_failure, first_bad_place}
+use Rattle.diagram_terms.specs.Places.{Test, Passes, here, under, at_each, lengths_fit, square_commutes, arrow_tests, leg_tests, tests_of, IsFirstFailure, first_failure, first_bad_place, first_bad_place_between}
 use Rattle.diagram_terms.specs.Laws.{HasOneFirstFault}
 use Rattle.diagram_terms.proofs.Decisions.{same_label_decides, at_most_decides, square_decides, dual_next, All-left, All-right, passes_here, passes_under, passes_each}
 
@@ -355,6 +355,13 @@ pub no_bad_place : (d : ℕ) (t : Tree) → IsDiagram d t → (first_bad_place d
 no_bad_place d t h =
     let none = none_iff_all_pass (tests_of d (dia d t)) in
     let passes = diagram_passes d t h in
+    (λ e. passes.0 (none.0 e), λ v. none.1 (passes.1 v))
+
+pub no_bad_place_between : (d : ℕ) (t : Tree) (X Y : Dia d) → IsArrow d t
+    → (first_bad_place_between d X Y (arr d t) ≡ None) ↔ ValidArrow d X Y (arr d t)
+no_bad_place_between d t X Y h =
+    let none = none_iff_all_pass (arrow_tests d X Y (arr d t)) in
+    let passes = arrow_passes d t X Y h in
     (λ e. passes.0 (none.0 e), λ v. none.1 (passes.1 v))
 
 pub one_first_fault : (d : ℕ) (t : Tree) → IsDiagram d t → ¬ (Valid d (dia d t)) → HasOneFirstFault d (dia d t)

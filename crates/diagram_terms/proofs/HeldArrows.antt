@@ -8,7 +8,7 @@ use Rattle.diagram_terms.specs.Tree.{nil, kind, kind-ends, kind-zag}
 use Rattle.diagram_terms.specs.Family.{Arr, no_arr}
 use Rattle.diagram_terms.specs.Decoded.{arr_tree}
 use Rattle.diagram_terms.specs.Values.{tree_of_arrow, trees_of_arrows}
-use Rattle.diagram_terms.proofs.ValueLemmas.{tree_of_arrow-Zero, tree_of_arrow-Zig, zag_iff, ends_iff}
+use Rattle.diagram_terms.proofs.ValuesAsTrees.{tree_of_arrow-Zero, tree_of_arrow-Zig, zag_iff, ends_iff}
 
 -- one arrow of a list
 pub held_arrow : (d : ℕ) (held : List Arrow) (fs : List (Arr d)) → trees_of_arrows held ≡ map (arr_tree d) fs

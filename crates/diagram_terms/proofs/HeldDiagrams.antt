@@ -9,7 +9,7 @@ use Rattle.diagram_terms.specs.Tree.{nil, kind, kind-point, kind-zig}
 use Rattle.diagram_terms.specs.Family.{Dia, no_dia}
 use Rattle.diagram_terms.specs.Decoded.{arr_tree, dia_tree}
 use Rattle.diagram_terms.specs.Values.{tree_of_diagram, trees_of_arrows, trees_of_diagrams}
-use Rattle.diagram_terms.proofs.ValueLemmas.{tree_of_diagram-Zero, tree_of_diagram-Zig, zig_iff, point_iff}
+use Rattle.diagram_terms.proofs.ValuesAsTrees.{tree_of_diagram-Zero, tree_of_diagram-Zig, zig_iff, point_iff}
 
 -- one diagram of a list
 pub held_diagram : (d : ℕ) (held : List Diagram) (Xs : List (Dia d)) → trees_of_diagrams held ≡ map (dia_tree d) Xs

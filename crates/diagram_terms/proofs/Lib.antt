@@ -28,5 +28,5 @@ pub mod Samples
 pub mod Shapes
 pub mod SquareParts
 pub mod Squares
-pub mod ValueLemmas
+pub mod ValuesAsTrees
 pub mod Visiting

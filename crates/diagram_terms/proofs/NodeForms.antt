@@ -12,8 +12,8 @@ use Rattle.diagram_terms.specs.declared.node.Sort.{Sort}
 use Rattle.diagram_terms.specs.declared.node.Sort.TheVariants as sort
 use Rattle.diagram_terms.specs.Tree.{Tree, nil, zig, zag}
 use Rattle.diagram_terms.specs.Dual.{IsMonotone}
-use Rattle.diagram_terms.specs.Nodes.{picked, node_tree, trees_from, trees_of, tree_at, is_within_limits, labels_within_limits, all_below, places_below, is_of, all_of, rises_from, diagram_lengths, diagram_over, arrow_over, first_sort, sort_of, dim_of, node_sort, sorts_from, sorts_of, sort_at, IsNode, AreNodesFrom, AreNodes}
-use Rattle.diagram_terms.proofs.NodeTests.{IsWithinLimits, within_limits, is_within_limits-true, below_at, all_below-true, of_at, all_of-true, rise_from, rises_from-true, LengthsFit, lengths_fit, diagram_lengths-true}
+use Rattle.diagram_terms.specs.Nodes.{picked, node_tree, trees_from, trees_of, tree_at, is_within_limits, labels_within_limits, all_below, places_below, is_of, all_of, rises_from, diagram_lengths, diagram_over, arrow_over, first_sort, sort_of, node_sort, sorts_from, sorts_of, sort_at, IsNode, AreNodesFrom, AreNodes}
+use Rattle.diagram_terms.proofs.NodeTests.{dim_of, IsWithinLimits, within_limits, is_within_limits-true, below_at, all_below-true, of_at, all_of-true, rise_from, rises_from-true, LengthsFit, lengths_fit, diagram_lengths-true}
 
 abbrev no_sort : Sort
 no_sort = sort.Diagram 0

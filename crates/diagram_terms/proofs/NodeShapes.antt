@@ -9,8 +9,9 @@ use Rattle.diagram_terms.specs.declared.node.Sort.TheVariants as sort
 use Rattle.diagram_terms.specs.Tree.{Tree, nil, point, ends, regs, sings, fwds, bwds, heights, regs-zig, sings-zig, fwds-zig, bwds-zig, heights-zag, regs-zag, sings-zag}
 use Rattle.diagram_terms.specs.Family.{no_label}
 use Rattle.diagram_terms.specs.Shape.{IsDiagram, IsArrow, reg_at, sing_at, fwd_at, bwd_at}
-use Rattle.diagram_terms.specs.Nodes.{picked, node_tree, trees_of, tree_at, dim_of, sorts_of, sort_at, AreNodes}
+use Rattle.diagram_terms.specs.Nodes.{picked, node_tree, trees_of, tree_at, sorts_of, sort_at, AreNodes}
 use Rattle.diagram_terms.proofs.NodeForms.{form_at, tree_at-node, node_fits, NodeFits, AreChildren, IsDiagramNode, IsArrowNode}
+use Rattle.diagram_terms.proofs.NodeTests.{dim_of}
 use Rattle.diagram_terms.proofs.Shapes.{IsDiagram-point, IsArrow-ends, IsDiagram-zig, IsArrow-zag}
 
 -- ---- parts by places

@@ -51,6 +51,11 @@ all_below-true n places h = all_from (λ i. nat_lt i n) places 0 (λ j l. lt-ltb
 
 -- ---- sorts
 
+-- the dimension that a sort has
+abbrev pub dim_of : Sort → ℕ
+dim_of (sort.Diagram d) = d
+dim_of (sort.Arrow d) = d
+
 pub same_sort-true : (s t : Sort) → same_sort s t ≡ true → s ≡ t
 same_sort-true (sort.Diagram d) (sort.Diagram e) h = ap sort.Diagram (eqb-true d e h)
 same_sort-true (sort.Diagram d) (sort.Arrow e) h = absurd (cc)

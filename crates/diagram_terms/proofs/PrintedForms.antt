@@ -13,11 +13,11 @@ use Rattle.diagram_terms.specs.Tree.{Tree, nil, kind, label_at, from_at, to_at, 
 use Rattle.diagram_terms.specs.Shape.{IsDiagram, IsArrow}
 use Rattle.diagram_terms.specs.Dimension.{dimension_of}
 use Rattle.diagram_terms.specs.Completion.{children, completed, completions, all_numbered, distinct_subtrees, place_in, places_in, node_of, subtree_nodes, root_places, IsAmongFirst, ComesAfterChildren}
-use Rattle.diagram_terms.specs.Nodes.{is_within_limits, labels_within_limits, dim_of, node_sort, IsNode, sorts_from, sort_at, AreNodesFrom, AreNodes}
+use Rattle.diagram_terms.specs.Nodes.{is_within_limits, labels_within_limits, node_sort, IsNode, sorts_from, sort_at, AreNodesFrom, AreNodes}
 use Rattle.diagram_terms.proofs.Completions.{AllIn, children-point, children-zig, children-ends, children-zag, all_numbered-append, in-all_numbered, after-none, after-numbered, lists_each_once}
 use Rattle.diagram_terms.proofs.Dimensions.{diagram_dimension, arrow_dimension}
 use Rattle.diagram_terms.proofs.NodeForms.{AreChildren, NodeFits, sort_of-fits, is_node}
-use Rattle.diagram_terms.proofs.NodeTests.{within_limits}
+use Rattle.diagram_terms.proofs.NodeTests.{dim_of, within_limits}
 use Rattle.diagram_terms.proofs.Printing.{Each, each_left, each_right, EachAmong, place_below, place_there, node_of-point, node_of-zig, node_of-ends, node_of-zag, IsMade, made_diagram, made_arrow, ArePrintable, one_left, next_within, before_next, next_is, visit_ends, visited_in, roots_in}
 use Rattle.diagram_terms.proofs.Shapes.{kind-diagram_zero, kind-diagram_above, kind-arrow_zero, kind-arrow_above}
 

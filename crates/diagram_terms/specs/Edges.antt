@@ -4,7 +4,7 @@ use Rattle.diagram_terms.specs.declared.tree.Arrow.{Arrow}
 use Rattle.diagram_terms.specs.Dual.{IsMonotone, tab}
 use Rattle.diagram_terms.specs.Family.{Dia, Arr}
 use Rattle.diagram_terms.specs.Decoded.{arr_tree}
-use Rattle.diagram_terms.specs.Composable.{AreComposable}
+use Rattle.diagram_terms.specs.Composable.{LengthsMeet}
 use Rattle.diagram_terms.specs.Valid.{left_edge, right_edge, enter_edge, leave_edge}
 use Rattle.diagram_terms.specs.Tree.{nil}
 use Rattle.diagram_terms.specs.Values.{trees_of_arrows}
@@ -18,7 +18,7 @@ pub record HoldsPairs (d : ℕ) (g f : ℕ → Arr d) (second first : List Arrow
   pub inside : length second ≤ length first
   pub second_is : (k : ℕ) → k < length second → get_or (trees_of_arrows second) k nil ≡ arr_tree d (g k)
   pub first_is : (k : ℕ) → k < length second → get_or (trees_of_arrows first) k nil ≡ arr_tree d (f k)
-  pub composable : (k : ℕ) → k < length second → AreComposable d (g k) (f k)
+  pub composable : (k : ℕ) → k < length second → LengthsMeet d (g k) (f k)
 
 -- the heights of f : X → Y and all its edges
 pub record HoldsEdges (d : ℕ) (X Y : Dia (suc d)) (f : Arr (suc d)) (heights : List ℕ) (lefts rights enters leaves : List Arrow) : Type 0 where

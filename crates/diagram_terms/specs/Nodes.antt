@@ -107,11 +107,6 @@ sort_of sorts (node.Arrow hs [] ss) = None
 sort_of sorts (node.Arrow hs (r ∷ rs) ss) =
     if (length ss == length hs) && rises_from 0 (length rs) hs then arrow_over sorts (r ∷ rs) ss (first_sort sorts (r ∷ rs)) else None
 
--- the dimension that a sort has
-abbrev pub dim_of : Sort → ℕ
-dim_of (sort.Diagram d) = d
-dim_of (sort.Arrow d) = d
-
 abbrev pub node_sort : List Sort → Node → Sort
 node_sort sorts n = unwrap_or (sort_of sorts n) (sort.Diagram 0)
 

@@ -103,6 +103,10 @@ pub record IsFirstFailure (tests : List Test) (p : Place) : Type 0 where
 abbrev pub first_failure : List Test → Option Place
 first_failure tests = option_map (λ t. t.place) (find (λ t. not t.holds) tests)
 
--- the first bad square or end of a diagram
+-- the first bad square or end of an arrow from X to Y
+abbrev pub first_bad_place_between : (d : ℕ) → Dia d → Dia d → Arr d → Option Place
+first_bad_place_between d X Y f = first_failure (arrow_tests d X Y f)
+
+-- and of a diagram
 abbrev pub first_bad_place : (d : ℕ) → Dia d → Option Place
 first_bad_place d X = first_failure (tests_of d X)

@@ -1,5 +1,5 @@
 ghost use Rattle.std.specs.Prelude.{◌≡◌, ℕ, suc, length, map, IfOk};
-ghost use Rattle.diagram_terms.specs.Composable.{AreComposable, AreComposableRegs, AreComposableSings};
+ghost use Rattle.diagram_terms.specs.Composable.{LengthsMeet, AreComposableRegs, AreComposableSings};
 ghost use Rattle.diagram_terms.specs.Composite.{comp};
 ghost use Rattle.diagram_terms.specs.Decoded.{arr_tree};
 ghost use Rattle.diagram_terms.specs.Dual.{AreBelow, after};
@@ -28,9 +28,9 @@ fn composite_heights(
 /// The composite of two arrows, first `f` and then `g`.
 #[cycle(composites)]
 pub(crate) fn composite(alloc: Global, g: &Arrow, f: &Arrow) -> Result<Arrow, AllocError>
-    requires { (n : ℕ) × (second : Arr n) × (first : Arr n) × AreComposable n second first
+    requires { (n : ℕ) × (second : Arr n) × (first : Arr n) × LengthsMeet n second first
         × (tree_of_arrow g.now ≡ arr_tree n second) × (tree_of_arrow f.now ≡ arr_tree n first) }
-    ensures { IfOk result (λ made. (n : ℕ) (second first : Arr n) → AreComposable n second first
+    ensures { IfOk result (λ made. (n : ℕ) (second first : Arr n) → LengthsMeet n second first
         → tree_of_arrow g.now ≡ arr_tree n second → tree_of_arrow f.now ≡ arr_tree n first
         → tree_of_arrow made ≡ arr_tree n (comp n second first)) }
 {

@@ -19,6 +19,7 @@ mod tree;
 
 pub use bad_square::first_bad_square;
 pub use compare::equal_trees;
+pub use dual::dual_from;
 pub use label::Label;
 pub use laws::{decoding_is_faithful, no_bad_place_is_validity, one_first_fault};
 pub use limits::{GREATEST_DIM, MAX_GENERATORS, MAX_NAME_LENGTH, NUMBER_LIMIT};

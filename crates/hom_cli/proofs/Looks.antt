@@ -11,9 +11,10 @@ use Rattle.diagram_terms.specs.Decoded.{dia}
 use Rattle.diagram_terms.specs.Shape.{IsDiagram, IsArrow}
 use Rattle.diagram_terms.specs.Places.{first_bad_place}
 use Rattle.diagram_terms.specs.Dimension.{dimension_of}
-use Rattle.diagram_terms.specs.Nodes.{AreNodes, tree_at, dim_of}
+use Rattle.diagram_terms.specs.Nodes.{AreNodes, tree_at}
 use Rattle.diagram_terms.proofs.Dimensions.{diagram_dimension}
 use Rattle.diagram_terms.proofs.NodeShapes.{diagram_at, dim_of-sort_at}
+use Rattle.diagram_terms.proofs.NodeTests.{dim_of}
 use Rattle.diagram_terms.proofs.Shapes.{one_kind}
 use Rattle.hashcons.specs.declared.id.AnyId.{AnyId}
 use Rattle.hashcons.specs.declared.id.AnyId.TheVariants as id

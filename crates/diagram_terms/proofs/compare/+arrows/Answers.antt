@@ -1,7 +1,7 @@
 use Rattle.std.proofs.Common.{sym, ◌∙◌}
 use Rattle.diagram_terms.specs.Values.{tree_of_arrow}
 use Rattle.diagram_terms.proofs.Fronts.{same_step, same_there}
-use Rattle.diagram_terms.proofs.ValueLemmas.{equal_zags}
+use Rattle.diagram_terms.proofs.ValuesAsTrees.{equal_zags}
 use Rattle.diagram_terms.proofs.compare.+arrows.Goals as goal
 
 pub all_arrows_equal-returns-then-not-equal_arrows : goal.all_arrows_equal-returns-then-not-equal_arrows

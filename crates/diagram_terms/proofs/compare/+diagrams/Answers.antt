@@ -1,7 +1,7 @@
 use Rattle.std.proofs.Common.{sym, ◌∙◌}
 use Rattle.diagram_terms.specs.Values.{tree_of_diagram}
 use Rattle.diagram_terms.proofs.Fronts.{same_step, same_there}
-use Rattle.diagram_terms.proofs.ValueLemmas.{equal_zigs}
+use Rattle.diagram_terms.proofs.ValuesAsTrees.{equal_zigs}
 use Rattle.diagram_terms.proofs.compare.+diagrams.Goals as goal
 
 pub all_diagrams_equal-returns-then-not-equal_trees : goal.all_diagrams_equal-returns-then-not-equal_trees

@@ -3,7 +3,7 @@ use Rattle.std.proofs.lemmas.List.{length-map}
 use Rattle.diagram_terms.specs.Shape.{IsDiagram}
 use Rattle.diagram_terms.specs.Tree.{nil}
 use Rattle.diagram_terms.specs.Values.{tree_of_diagram, trees_of_diagrams}
-use Rattle.diagram_terms.proofs.ValueLemmas.{diagram_above, diagram_at_zero, first_tree}
+use Rattle.diagram_terms.proofs.ValuesAsTrees.{diagram_above, diagram_at_zero, first_tree}
 use Rattle.diagram_terms.proofs.measure.dimension.Goals as goal
 
 pub returns-in-None : goal.returns-in-None
