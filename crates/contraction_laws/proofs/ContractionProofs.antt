@@ -10,7 +10,8 @@ use Rattle.diagram_terms.specs.Cocones.{Cocone, leg}
 use Rattle.diagram_terms.specs.ColimitRefusals.{Refusal}
 use Rattle.colimit_laws.proofs.Finite.{decide_less}
 use Rattle.diagram_terms.specs.ColimitProgram.{colimit_of}
-use Rattle.diagram_terms.specs.Contraction.{two_heights, ContractsAlong, ContractionFault, no_height, refused, outside, inside, no_slice, in_slice, RefusesAlong, Contraction, by_colimit, by_slice, if_there, contract_from}
+use Rattle.diagram_terms.specs.Tested.{if_passed}
+use Rattle.diagram_terms.specs.Contraction.{two_heights, ContractsAlong, ContractionFault, no_height, refused, outside, inside, no_slice, in_slice, RefusesAlong, Contraction, by_colimit, by_slice, contract_from}
 use Rattle.colimit_laws.proofs.Tests.{tells_less, fails_where}
 use Rattle.colimit_laws.proofs.ColimitProofs.{answers_colimits, answers_refusals, colimit_answered, refusal_answered}
 use Rattle.contraction_laws.proofs.TwoHeights.{two_heights-shape}
@@ -18,11 +19,11 @@ use Rattle.contraction_laws.proofs.TwoHeights.{two_heights-shape}
 abbrev pub contraction : (d : ℕ) → Dia d → Arr d → Contraction d
 contraction d X f = record { result = X; arrow = f }
 
-there : {X : Type 0} (n i m : ℕ) (r : Result X ContractionFault) → i < m → if_there n (nat_lt i m) r ≡ r
-there n i m r l = ap (λ (b : Bool). if_there n b r) ((tells_less i m).no l)
+there : {X : Type 0} (n i m : ℕ) (r : Result X ContractionFault) → i < m → if_passed (no_height n) (nat_lt i m) r ≡ r
+there n i m r l = ap (λ (b : Bool). if_passed (no_height n) b r) ((tells_less i m).no l)
 
-not_there : {X : Type 0} (n i m : ℕ) (r : Result X ContractionFault) → (i < m → ⊥) → if_there n (nat_lt i m) r ≡ Err (no_height n)
-not_there n i m r l = ap (λ (b : Bool). if_there n b r) (fails_where (tells_less i m) l)
+not_there : {X : Type 0} (n i m : ℕ) (r : Result X ContractionFault) → (i < m → ⊥) → if_passed (no_height n) (nat_lt i m) r ≡ Err (no_height n)
+not_there n i m r l = ap (λ (b : Bool). if_passed (no_height n) b r) (fails_where (tells_less i m) l)
 
 pub answers_contractions : (n d : ℕ) (C : Dia d) (path : List ℕ) (k : ℕ) (biases : List Bias) (X : Dia d) (f : Arr d) → GoodDiagram d C
     → ContractsAlong d C path k biases X f → contract_from n d C path k biases ≡ Ok (contraction d X f)

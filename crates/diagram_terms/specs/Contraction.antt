@@ -1,9 +1,10 @@
 -- Contraction: in the slice to which a path leads, two heights become one, by the colimit of what stands there.
-use Rattle.std.specs.Prelude.{◌≡◌, ℕ, zero, suc, ◌<◌, Bool, true, false, nat_lt, List, [], ◌∷◌, length, Result, Ok, Err}
+use Rattle.std.specs.Prelude.{◌≡◌, ℕ, zero, suc, ◌<◌, nat_lt, List, [], ◌∷◌, length, Result, Ok, Err}
 use Rattle.diagram_terms.specs.declared.place.Bias.{Bias}
 use Rattle.diagram_terms.specs.Family.{Dia, Arr, reg, sing, fwd, bwd}
 use Rattle.diagram_terms.specs.Composite.{ident}
 use Rattle.diagram_terms.specs.Cone.{cospan}
+use Rattle.diagram_terms.specs.Tested.{if_passed}
 use Rattle.diagram_terms.specs.Merging.{slice_replaced, slice_replacing, merged, merging, MergesInSlice}
 use Rattle.diagram_terms.specs.Shapes.{Shape}
 use Rattle.diagram_terms.specs.Cocones.{Cocone, leg}
@@ -79,18 +80,13 @@ abbrev pub by_slice : (d : ℕ) → Dia (suc d) → ℕ → Result (Contraction 
 by_slice d C p (Err e) = Err e
 by_slice d C p (Ok c) = Ok (record { result = slice_replaced d C p c.result c.arrow; arrow = slice_replacing d C p c.arrow })
 
--- the answer where a height is there, and else that step n names none
-abbrev pub if_there : {X : Type 0} → ℕ → Bool → Result X ContractionFault → Result X ContractionFault
-if_there n true r = r
-if_there n false r = Err (no_height n)
-
 -- the contraction along a path that begins with step n, or its first refusal
 unfoldable pub contract_from : ℕ → (d : ℕ) → Dia d → List ℕ → ℕ → List Bias → Result (Contraction d) ContractionFault
 contract_from n zero C path k biases = Err (no_height n)
 contract_from n (suc d) C [] k biases =
-    if_there n (nat_lt (suc k) (length C.sings)) (by_colimit d C k (colimit_of d (two_heights d C k) biases))
+    if_passed (no_height n) (nat_lt (suc k) (length C.sings)) (by_colimit d C k (colimit_of d (two_heights d C k) biases))
 contract_from n (suc d) C (p ∷ path) k biases =
-    if_there n (nat_lt p (length C.sings)) (by_slice d C p (contract_from (suc n) d (sing d C p) path k biases))
+    if_passed (no_height n) (nat_lt p (length C.sings)) (by_slice d C p (contract_from (suc n) d (sing d C p) path k biases))
 
 abbrev pub contract : (d : ℕ) → Dia d → List ℕ → ℕ → List Bias → Result (Contraction d) ContractionFault
 contract d C path k biases = contract_from 0 d C path k biases

@@ -1,11 +1,12 @@
 -- Expansion: a height that is parted in two at a height of its singular slice.
-use Rattle.std.specs.Prelude.{ℕ, suc, [], ◌∷◌, length}
+use Rattle.std.specs.Prelude.{ℕ, zero, suc, nat_lt, [], ◌∷◌, length, Result, Ok, Err}
 use Rattle.diagram_terms.specs.Family.{Dia, Arr, reg, sing, fwd, bwd}
 use Rattle.diagram_terms.specs.Dual.{dual}
 use Rattle.diagram_terms.specs.Composite.{ident}
 use Rattle.diagram_terms.specs.Cone.{cospan}
 use Rattle.diagram_terms.specs.Segments.{segment, diagram_sum, arrow_sum, arrow_segment, replaced, replacing}
 use Rattle.diagram_terms.specs.Merging.{to_one_height}
+use Rattle.diagram_terms.specs.Tested.{if_passed}
 
 -- the block of the height i under a leg f from r: the segment of r whose heights go to i
 abbrev pub block : (d : ℕ) → Dia (suc d) → Arr (suc d) → ℕ → Dia (suc d)
@@ -77,6 +78,30 @@ expanded d D k i = replaced (suc d) D k (suc k) (height_parted d D k i)
 abbrev pub expanding : (d : ℕ) → Dia (suc (suc d)) → ℕ → ℕ → Arr (suc (suc d))
 expanding d D k i = replacing (suc d) D k (suc k) (height_parting d D k i)
 
--- the diagram that is stored for it: D → D ← E with the identity and that arrow from the expanded diagram E
-abbrev pub stored_expansion : (d : ℕ) → Dia (suc (suc d)) → ℕ → ℕ → Dia (suc (suc (suc d)))
-stored_expansion d D k i = cospan (suc (suc d)) D (ident (suc (suc d)) D) D (expanding d D k i) (expanded d D k i)
+-- ---- what an expansion answers
+
+-- what an expansion gives: the diagram, and the arrow from it
+pub record Expansion (d : ℕ) : Type 0 where
+  pub result : Dia d
+  pub arrow : Arr d
+
+-- the diagram that is stored for an expansion of D: D → D ← E with the identity and the arrow from the expanded diagram E
+abbrev pub stored_expansion : (d : ℕ) → Dia d → Expansion d → Dia (suc d)
+stored_expansion d D c = cospan d D (ident d D) D c.arrow c.result
+
+-- why nothing is expanded: the height, which is step 0, or the inner height, which is step 1, is not there, or the inner
+-- height is the only one
+pub data ExpansionFault : Type 0 where
+  no_height : ℕ → ExpansionFault
+  nothing_to_part : ExpansionFault
+
+-- The expansion of a diagram at the height k and its inner height i, or why there is none. What stands at a height of a diagram
+-- of dimension 1 has no inner heights.
+unfoldable pub expand : (d : ℕ) → Dia d → ℕ → ℕ → Result (Expansion d) ExpansionFault
+expand zero D k i = Err (no_height 0)
+expand (suc zero) D k i = if_passed (no_height 0) (nat_lt k (length D.sings)) (Err (no_height 1))
+expand (suc (suc d)) D k i =
+    if_passed (no_height 0) (nat_lt k (length D.sings))
+    (if_passed (no_height 1) (nat_lt i (length (sing (suc d) D k).sings))
+    (if_passed nothing_to_part (nat_lt 1 (length (sing (suc d) D k).sings))
+    (Ok (record { result = expanded d D k i; arrow = expanding d D k i }))))

@@ -52,6 +52,7 @@ pub mod SignatureMaps
 pub mod Places
 pub mod Order
 pub mod SameDiagrams
+pub mod Tested
 pub mod Good
 pub mod Segments
 pub mod Occurrences

@@ -1,5 +1,6 @@
 -- The definitions at small diagrams, by computation.
 use Rattle.std.proofs.Common.{◌≡◌, ℕ, [], ◌∷◌, Some, None, refl}
+use Rattle.std.specs.Prelude.{Ok, Err}
 use Rattle.diagram_terms.specs.declared.label.Label.{Label}
 use Rattle.diagram_terms.specs.Family.{Dia, Arr, no_dia, no_arr}
 use Rattle.diagram_terms.specs.Dual.{dual, after}
@@ -9,7 +10,7 @@ use Rattle.diagram_terms.specs.Segments.{segment, diagram_sum, arrow_sum, arrow_
 use Rattle.diagram_terms.specs.Occurrences.{image, arrow_image, swap, put, refused_step, matches}
 use Rattle.diagram_terms.specs.Attachment.{attached_at_target, attached_at_source}
 use Rattle.diagram_terms.specs.Merging.{to_one_height, merged, merging}
-use Rattle.diagram_terms.specs.Expansion.{expanded, expanding}
+use Rattle.diagram_terms.specs.Expansion.{expanded, expanding, nothing_to_part, no_height, expand}
 
 abbrev cell : ℕ → ℕ → Label
 cell n d = record { number = n; dim = d }
@@ -217,13 +218,34 @@ merging_is_parting =
 abbrev no_heights : Label → Label → Arr 1
 no_heights y z = record { heights = []; regs = pair x x ∷ pair x x ∷ pair x x ∷ []; sings = [] }
 
-abbrev no_height : Arr 1
-no_height = record { heights = []; regs = pair x x ∷ pair x x ∷ []; sings = [] }
+abbrev missed : Arr 1
+missed = record { heights = []; regs = pair x x ∷ pair x x ∷ []; sings = [] }
 
 parted_in_place : expanded 0 (cospan 1 point (no_heights p q) (chain p q) (no_heights p q) point) 0 1 ≡ record {
   regs = point ∷ point ∷ point ∷ [];
   sings = link q ∷ link p ∷ [];
-  fwds = no_height ∷ no_height ∷ [];
-  bwds = no_height ∷ no_height ∷ [];
+  fwds = missed ∷ missed ∷ [];
+  bwds = missed ∷ missed ∷ [];
 }
 parted_in_place = unfold segment diagram_sum arrow_sum arrow_segment ident dual no_dia no_arr in refl
+
+-- ---- what an expansion answers
+
+-- both at once, expanded at a: a and then b, and the arrow from that
+both_answered : expand 2 (cospan 1 (chain f g) (on_chain f a g b) (chain a b) (on_chain f a g b) (chain f g)) 0 0
+    ≡ Ok (record { result = one_by_one; arrow = merging 1 one_by_one 0 (on_chain a a g b) (on_chain f a b b) })
+both_answered = unfold expand swap put image arrow_image segment diagram_sum arrow_sum arrow_segment to_one_height cone mid ident dual no_dia no_arr in refl
+
+-- a alone has nothing to part, and no second inner height
+nothing_left : expand 2 (type_over 1 (link f) (link f) a) 0 0 ≡ Err nothing_to_part
+nothing_left = unfold expand cone mid type_over ident no_dia no_arr in refl
+
+no_inner_height : expand 2 (type_over 1 (link f) (link f) a) 0 1 ≡ Err (no_height 1)
+no_inner_height = unfold expand cone mid type_over ident no_dia no_arr in refl
+
+-- nor has it a second height; and f has no inner heights
+no_outer_height : expand 2 (type_over 1 (link f) (link f) a) 1 0 ≡ Err (no_height 0)
+no_outer_height = unfold expand cone mid type_over ident no_dia no_arr in refl
+
+no_inner_heights : expand 1 (link f) 0 0 ≡ Err (no_height 1)
+no_inner_heights = unfold expand no_dia no_arr in refl

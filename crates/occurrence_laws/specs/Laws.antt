@@ -1,5 +1,5 @@
 -- The laws of segments and sums, of occurrences, of merging and of expansion, each at one dimension.
-use Rattle.std.specs.Prelude.{◌≡◌, ◌+◌, ◌<◌, ◌≤◌, ◌↔◌, ℕ, suc, List, [], ◌∷◌, length, get_or, Some, None}
+use Rattle.std.specs.Prelude.{◌≡◌, ◌+◌, ◌<◌, ◌≤◌, ◌↔◌, ℕ, suc, List, [], ◌∷◌, length, get_or, Some, None, Ok}
 use Rattle.std.specs.List.{Contains}
 use Rattle.diagram_terms.specs.declared.label.Label.{Label}
 use Rattle.diagram_terms.specs.Family.{Dia, Arr, reg, sing, fwd, bwd}
@@ -13,7 +13,7 @@ use Rattle.occurrence_laws.specs.Lists.{HasListsReplaced, HasListsReplacing, Has
 use Rattle.diagram_terms.specs.Occurrences.{swap, put, slices_swapped, slices_put, Inside, refused_step, matches, AreOffsetsBefore}
 use Rattle.diagram_terms.specs.Attachment.{attached_at_target, attached_at_source}
 use Rattle.diagram_terms.specs.Merging.{to_one_height, slice_replaced, slice_replacing, merged, merging, MergesAlong}
-use Rattle.diagram_terms.specs.Expansion.{block, block_replaced, around_block, height_parted, height_parting, expanded, expanding, stored_expansion}
+use Rattle.diagram_terms.specs.Expansion.{block, block_replaced, around_block, height_parted, height_parting, expanded, expanding, Expansion, stored_expansion, expand}
 
 -- ---- segments and sums of diagrams
 
@@ -299,11 +299,6 @@ abbrev pub ExpandingIsGood : ℕ → Type 0
 ExpandingIsGood d = (D : Dia (suc (suc d))) (k i : ℕ) → GoodDiagram (suc (suc d)) D → k < length D.sings
     → i < length (sing (suc d) D k).sings → GoodArrow (suc (suc d)) (expanded d D k i) D (expanding d D k i)
 
--- so the diagram that is stored for an expansion is valid and plain
-abbrev pub StoredExpansionsAreGood : ℕ → Type 0
-StoredExpansionsAreGood d = (D : Dia (suc (suc d))) (k i : ℕ) → GoodDiagram (suc (suc d)) D → k < length D.sings
-    → i < length (sing (suc d) D k).sings → GoodDiagram (suc (suc (suc d))) (stored_expansion d D k i)
-
 -- in lists: the two heights stand in the place of the height k, and the arrow sends both to it
 abbrev pub ExpandedHasLists : ℕ → Type 0
 ExpandedHasLists d = (D : Dia (suc (suc d))) (k i : ℕ) → GoodDiagram (suc (suc d)) D → k < length D.sings
@@ -317,3 +312,21 @@ AroundBlocksHaveLists d = (r s : Dia (suc d)) (f : Arr (suc d)) (i : ℕ) (Q : D
     → GoodDiagram (suc d) Q → Parallel (suc d) Q (block d r f i)
     → GoodArrow (suc d) (block_replaced d r f i Q) (replaced d s i (suc i) Q) (around_block d s f i Q)
     × HasListsAround d s f i Q (around_block d s f i Q)
+
+-- what an expansion answers is a valid plain arrow to the diagram, from one with the same boundary, and the diagram that is
+-- stored for it is valid and plain
+abbrev pub ExpansionsAreGood : ℕ → Type 0
+ExpansionsAreGood d = (D : Dia d) (k i : ℕ) (c : Expansion d) → GoodDiagram d D → expand d D k i ≡ Ok c → GoodArrow d c.result D c.arrow
+
+abbrev pub ExpansionsHaveOneBoundary : ℕ → Type 0
+ExpansionsHaveOneBoundary d = (D : Dia d) (k i : ℕ) (c : Expansion d) → GoodDiagram d D → expand d D k i ≡ Ok c → Parallel d c.result D
+
+abbrev pub StoredExpansionsAreGood : ℕ → Type 0
+StoredExpansionsAreGood d = (D : Dia d) (k i : ℕ) (c : Expansion d) → GoodDiagram d D → expand d D k i ≡ Ok c
+    → GoodDiagram (suc d) (stored_expansion d D c)
+
+-- there is one exactly where both heights are there and the inner one is not the only one
+abbrev pub ExpansionsAreAnswered : ℕ → Type 0
+ExpansionsAreAnswered d = (D : Dia (suc (suc d))) (k i : ℕ)
+    → (expand (suc (suc d)) D k i ≡ Ok (record { result = expanded d D k i; arrow = expanding d D k i }))
+    ↔ ((k < length D.sings) × (i < length (sing (suc d) D k).sings) × (1 < length (sing (suc d) D k).sings))

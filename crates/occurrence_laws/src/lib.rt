@@ -3,7 +3,7 @@
 #![tactic(auto)]
 
 ghost use Rattle.std.specs.Prelude.{ℕ};
-ghost use Rattle.occurrence_laws.specs.Laws.{AroundBlocksHaveLists, ArrowSegmentsAreGood, ArrowSegmentsAreWhole, ArrowSegmentsJoin, ArrowSumsAreAssociative, ArrowSumsAreGood, ArrowSumsHaveSegments, AttachedAtSourceHasEnds, AttachedAtSourceIsGood, AttachedAtTargetHasEnds, AttachedAtTargetIsGood, ExpandedHasLists, ExpandingIsGood, IdentityDiagramsAreNeutral, MatchesAreInOrder, MatchesAreOccurrences, MergedHasLists, MergingAlongIsGood, MergingIsGood, NoRefusedStepMeansInside, PutsAreGood, PutsHaveLists, PutsOfComposites, PutsOfIdentities, RefusedStepsAreWithin, ReplacedAreGood, ReplacedBySameIsSame, ReplacedHasLists, ReplacingHasLists, ReplacingIsGood, SegmentsAreGood, SegmentsAreValid, SegmentsAreWhole, SegmentsHaveEnds, SegmentsJoin, SegmentsOfComposites, SegmentsOfIdentities, SliceReplacedHasLists, SliceReplacingIsGood, StoredArrowsAreGood, StoredExpansionsAreGood, SumsAreAssociative, SumsAreGood, SumsAreValid, SumsHaveEnds, SumsHaveSegments, SumsOfComposites, SumsOfIdentities, SwappedIsInside, SwapsAreGood, SwapsBack, SwapsHaveLists, SwapsTwice, SwapsWithItself};
+ghost use Rattle.occurrence_laws.specs.Laws.{AroundBlocksHaveLists, ArrowSegmentsAreGood, ArrowSegmentsAreWhole, ArrowSegmentsJoin, ArrowSumsAreAssociative, ArrowSumsAreGood, ArrowSumsHaveSegments, AttachedAtSourceHasEnds, AttachedAtSourceIsGood, AttachedAtTargetHasEnds, AttachedAtTargetIsGood, ExpandedHasLists, ExpandingIsGood, ExpansionsAreAnswered, ExpansionsAreGood, ExpansionsHaveOneBoundary, IdentityDiagramsAreNeutral, MatchesAreInOrder, MatchesAreOccurrences, MergedHasLists, MergingAlongIsGood, MergingIsGood, NoRefusedStepMeansInside, PutsAreGood, PutsHaveLists, PutsOfComposites, PutsOfIdentities, RefusedStepsAreWithin, ReplacedAreGood, ReplacedBySameIsSame, ReplacedHasLists, ReplacingHasLists, ReplacingIsGood, SegmentsAreGood, SegmentsAreValid, SegmentsAreWhole, SegmentsHaveEnds, SegmentsJoin, SegmentsOfComposites, SegmentsOfIdentities, SliceReplacedHasLists, SliceReplacingIsGood, StoredArrowsAreGood, StoredExpansionsAreGood, SumsAreAssociative, SumsAreGood, SumsAreValid, SumsHaveEnds, SumsHaveSegments, SumsOfComposites, SumsOfIdentities, SwappedIsInside, SwapsAreGood, SwapsBack, SwapsHaveLists, SwapsTwice, SwapsWithItself};
 
 /// Segments and sums of valid diagrams are valid, and those of valid plain diagrams are valid and
 /// plain.
@@ -118,11 +118,18 @@ pub fn stored_arrows_are_good()
     ensures { (d : ℕ) → StoredArrowsAreGood d }
 {}
 
-/// An expanded diagram is valid and plain, and so are the arrow from it and the diagram that is
-/// stored for it.
+/// An expanded diagram is valid and plain, and so is the arrow from it.
 pub fn expanding_is_good()
     ensures good { (d : ℕ) → ExpandingIsGood d }
-    ensures stored { (d : ℕ) → StoredExpansionsAreGood d }
     ensures lists { (d : ℕ) → ExpandedHasLists d }
     ensures around_blocks { (d : ℕ) → AroundBlocksHaveLists d }
+{}
+
+/// There is an expansion exactly where both heights are there and the inner one is not the only one.
+/// It has the boundary of the diagram, and the diagram that is stored for it is valid and plain.
+pub fn expansions_are_answered()
+    ensures answers { (d : ℕ) → ExpansionsAreAnswered d }
+    ensures good { (d : ℕ) → ExpansionsAreGood d }
+    ensures boundary { (d : ℕ) → ExpansionsHaveOneBoundary d }
+    ensures stored { (d : ℕ) → StoredExpansionsAreGood d }
 {}
