@@ -4,7 +4,7 @@ ghost use Rattle.diagram_terms.specs.Order.{steps_from, steps_on, LeadsIn, regs_
 use diagram_terms::Step;
 
 /// The step after this one, in the order in which a diagram of length `n` is visited.
-#[tactic(auto, using(crate::proofs::OrderLemmas::order))]
+#[tactic(auto, using(diagram_terms::proofs::NextSteps::order))]
 pub fn next_step(n: usize, step: Step) -> Option<Step>
     requires { LeadsIn n step }
     ensures next { steps_from n step ≡ step ∷ steps_on n result }
