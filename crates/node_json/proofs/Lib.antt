@@ -15,5 +15,5 @@ pub mod PrintedLists
 pub mod PrintedNodes
 pub mod PrintedEntries
 pub mod PrintedData
-pub mod PrintedText
+pub mod ForCallers
 pub mod Printed

@@ -25,12 +25,17 @@ abbrev pub each : {A B : Type 0} → (List B → A → Result B FormFault)
 each step done [] = Ok done
 each step done (x ∷ xs) = step done x >>= λ y. each step (done ++ y ∷ []) xs
 
+-- The answer of a call that takes no memory is what reading gives.
+abbrev pub GivesExactly : {A B : Type 0} → (A → B) → Result A FormFault → Result B FormFault → Type 0
+GivesExactly view (Ok x) read = read ≡ Ok (view x)
+GivesExactly view (Err e) read = read ≡ Err e
+
 -- Want of memory may come in place of any answer.
 abbrev pub Fails : {A : Type 0} → FormFault → Result A FormFault → Type 0
 Fails fault.NoMemory read = Unit {0}
 Fails e read = read ≡ Err e
 
--- The call's answer is what reading gives.
+-- The answer of a call that takes memory is what reading gives, where there was memory.
 abbrev pub Gives : {A B : Type 0} → (A → B) → Result A FormFault → Result B FormFault → Type 0
 Gives view (Ok x) read = read ≡ Ok (view x)
 Gives view (Err e) read = Fails e read

@@ -1,7 +1,7 @@
 ghost use Rattle.std.specs.Prelude.{◌≡◌, ◌∷◌, [], map, IfOk};
 ghost use Rattle.std.specs.List.{slice_get};
 ghost use Rattle.serde_json.specs.View.{view};
-ghost use Rattle.node_json.specs.Step.{Gives};
+ghost use Rattle.node_json.specs.Step.{Gives, GivesExactly};
 ghost use Rattle.node_json.specs.Names.{has_name, also};
 ghost use Rattle.node_json.specs.Entries.{is_diagram, is_arrow, diagram_place, arrow_place, point_entry, cell_entry, generator_entry, diagram_entry, map_entry, generator_names, diagram_names, map_names, generators_in, diagrams_in, maps_in};
 
@@ -9,13 +9,10 @@ use crate::document::{DiagramEntry, GeneratorEntry, MapEntry};
 use crate::fault::{Field, FormFault};
 use crate::names::name_in;
 use crate::parts::{has_keys, keyed, number_at};
-use diagram_terms::{Items, Sort, Text};
+use diagram_terms::{Items, MAX_GENERATORS, Sort, Text};
 use serde_json::Value;
-use std::alloc::{AllocError, Global};
+use std::alloc::Global;
 use std::collections::BTreeSet;
-
-/// How many generators a document may have.
-const MOST_GENERATORS: usize = 60_000;
 
 fn is_diagram(sorts: &[Sort], place: usize) -> bool
     ensures { result ≡ is_diagram (slice_get sorts.now place) }
@@ -42,7 +39,7 @@ fn diagram_place(
     key: &str,
     value: &Value,
 ) -> Result<usize, FormFault>
-    ensures { Gives (λ place. place) result
+    ensures { GivesExactly (λ place. place) result
         (diagram_place wrong sorts.now key.now (view value.now)) }
 {
     let place = number_at(wrong, value, key)?;
@@ -60,7 +57,7 @@ fn arrow_place(
     key: &str,
     value: &Value,
 ) -> Result<usize, FormFault>
-    ensures { Gives (λ place. place) result
+    ensures { GivesExactly (λ place. place) result
         (arrow_place wrong sorts.now key.now (view value.now)) }
 {
     let place = number_at(wrong, value, key)?;
@@ -69,12 +66,6 @@ fn arrow_place(
     } else {
         Err(wrong)
     }
-}
-
-fn text_of(alloc: Global, name: &str) -> Result<Text, AllocError>
-    ensures { IfOk result (λ text. text ≡ name.now) }
-{
-    Ok(Text::from_string(String::from_str(alloc, name)?))
 }
 
 fn point_entry<'v>(
@@ -90,7 +81,7 @@ fn point_entry<'v>(
 {
     let name = name_in(wrong, names, value)?;
     Ok(GeneratorEntry {
-        name: text_of(alloc, name)?,
+        name: Text::from_str(alloc, name)?,
         boundary: None,
     })
 }
@@ -112,7 +103,7 @@ fn cell_entry<'v>(
     let source = diagram_place(wrong, sorts, "source", value)?;
     let target = diagram_place(wrong, sorts, "target", value)?;
     Ok(GeneratorEntry {
-        name: text_of(alloc, name)?,
+        name: Text::from_str(alloc, name)?,
         boundary: Some((source, target)),
     })
 }
@@ -154,7 +145,7 @@ fn diagram_entry<'v>(
     let name = name_in(wrong, names, value)?;
     let root = diagram_place(wrong, sorts, "root", value)?;
     Ok(DiagramEntry {
-        name: text_of(alloc, name)?,
+        name: Text::from_str(alloc, name)?,
         root,
     })
 }
@@ -178,7 +169,7 @@ fn map_entry<'v>(
     let target = diagram_place(wrong, sorts, "target", value)?;
     let arrow = arrow_place(wrong, sorts, "arrow", value)?;
     Ok(MapEntry {
-        name: text_of(alloc, name)?,
+        name: Text::from_str(alloc, name)?,
         source,
         target,
         arrow,
@@ -209,7 +200,7 @@ pub(crate) fn generators_in<'v>(
     let mut entries = Items::new(alloc);
     for value in list {
         let wrong = entry_fault(Field::Generators, entries.len());
-        if entries.len() >= MOST_GENERATORS {
+        if entries.len() >= MAX_GENERATORS {
             return Err(wrong);
         }
         entries.push(generator_entry(alloc, wrong, sorts, names, value)?)?;

@@ -7,11 +7,9 @@ ghost use Rattle.node_json.specs.Entries.{name_in};
 
 use crate::fault::FormFault;
 use crate::parts::text_at;
+use diagram_terms::MAX_NAME_LENGTH;
 use serde_json::Value;
 use std::collections::BTreeSet;
-
-/// The greatest length of a name, in bytes.
-const GREATEST_LENGTH: usize = 64;
 
 fn is_name_byte(byte: u8) -> bool
     ensures { result ≡ is_name_byte byte }
@@ -25,11 +23,12 @@ fn are_name_bytes(bytes: &[u8]) -> bool
     bytes.iter().all(|byte| is_name_byte(*byte))
 }
 
-/// Whether something may have the name: 1 to 64 bytes from `!` to `~`, none of them `"`, `\` or `:`.
+/// Whether something may have the name: 1 to `MAX_NAME_LENGTH` bytes from `!` to `~`, none of them `"`,
+/// `\` or `:`. It takes no memory.
 pub fn is_good_name(name: &str) -> bool
     ensures { result ≡ is_good_name name.now }
 {
-    (1..=GREATEST_LENGTH).contains(&name.len()) && are_name_bytes(name.as_bytes())
+    (1..=MAX_NAME_LENGTH).contains(&name.len()) && are_name_bytes(name.as_bytes())
 }
 
 /// The name of an entry, which is good and none of `names`, and stands among them from then on.

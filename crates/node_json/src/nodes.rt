@@ -1,21 +1,15 @@
 ghost use Rattle.std.specs.Prelude.{◌≡◌, map, IfOk};
 ghost use Rattle.serde_json.specs.View.{view};
 ghost use Rattle.diagram_terms.specs.Nodes.{sorts_of};
-ghost use Rattle.node_json.specs.Step.{Gives};
+ghost use Rattle.node_json.specs.Step.{Gives, GivesExactly};
 ghost use Rattle.node_json.specs.NodeForms.{label_in, label_node, labels_node, diagram_node, arrow_node, limited, limited_label, written_at, nodes_in};
 
 use crate::fault::FormFault;
 use crate::parts::{has_keys, list_at, list_of, numbers_at};
 use crate::sorts::sort_behind;
-use diagram_terms::{Items, Label, Node, Sort};
+use diagram_terms::{GREATEST_DIM, Items, Label, NUMBER_LIMIT, Node, Sort};
 use serde_json::Value;
 use std::alloc::Global;
-
-/// The numbers of labels are below this.
-const NUMBER_LIMIT: u64 = 60_000;
-
-/// The greatest dimension of a label.
-const GREATEST_DIM: u64 = 6;
 
 /// Nodes, and the sort of each.
 #[derive(Debug, Drop)]
@@ -26,7 +20,7 @@ pub(crate) struct Nodes {
 
 /// The two numbers of a label.
 fn pair_of(wrong: FormFault, value: &Value) -> Result<(u64, u64), FormFault>
-    ensures { Gives (λ pair. record { number = pair.0; dim = pair.1 }) result
+    ensures { GivesExactly (λ pair. record { number = pair.0; dim = pair.1 }) result
         (label_in wrong (view value.now)) }
 {
     let Some([number, dim]) = list_of(Some(value)) else {
@@ -40,11 +34,11 @@ fn pair_of(wrong: FormFault, value: &Value) -> Result<(u64, u64), FormFault>
 
 /// The label with these numbers, if they are within the limits.
 fn limited_label(place: usize, pair: (u64, u64)) -> Result<Label, FormFault>
-    ensures { Gives (λ label. label) result
+    ensures { GivesExactly (λ label. label) result
         (limited_label place (record { number = pair.0; dim = pair.1 })) }
 {
     let (number, dim) = pair;
-    if number < NUMBER_LIMIT && dim <= GREATEST_DIM {
+    if number < NUMBER_LIMIT as u64 && dim <= GREATEST_DIM as u64 {
         Ok(Label {
             number: number as u32,
             dim: dim as u8,
@@ -55,7 +49,7 @@ fn limited_label(place: usize, pair: (u64, u64)) -> Result<Label, FormFault>
 }
 
 fn label_node(place: usize, value: &Value) -> Result<Node, FormFault>
-    ensures { Gives (λ node. node) result
+    ensures { GivesExactly (λ node. node) result
         (limited place (label_node (FormFault.Shape place) (view value.now))) }
 {
     let wrong = FormFault::Shape(place);
@@ -66,7 +60,7 @@ fn label_node(place: usize, value: &Value) -> Result<Node, FormFault>
 }
 
 fn labels_node(place: usize, value: &Value) -> Result<Node, FormFault>
-    ensures { Gives (λ node. node) result
+    ensures { GivesExactly (λ node. node) result
         (limited place (labels_node (FormFault.Shape place) (view value.now))) }
 {
     let wrong = FormFault::Shape(place);

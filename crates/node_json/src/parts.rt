@@ -2,7 +2,7 @@ ghost use Rattle.std.specs.Prelude.{◌≡◌, map, option_map, option_and_then,
 ghost use Rattle.std.specs.List.{list_all};
 ghost use Rattle.serde_json.specs.Find.{get, as_object};
 ghost use Rattle.serde_json.specs.View.{view};
-ghost use Rattle.node_json.specs.Step.{Gives, when, or_fault};
+ghost use Rattle.node_json.specs.Step.{Gives, GivesExactly, when, or_fault};
 ghost use Rattle.node_json.specs.Json.{json_of, has_keys, is_counted, list_of, number_at, text_at, list_at, numbers_in, numbers_at};
 
 use crate::fault::FormFault;
@@ -10,7 +10,8 @@ use diagram_terms::Items;
 use serde_json::Value;
 use std::alloc::Global;
 
-/// The JSON value that the bytes are.
+/// The JSON value that the bytes are. The fault is `NotJson` where they are no UTF-8 or `serde_json`
+/// does not read them; `NoMemory` may come in place of any answer.
 pub fn value_of(alloc: Global, bytes: &[u8]) -> Result<Value, FormFault>
     ensures { Gives view result (or_fault FormFault.NotJson (json_of bytes.now)) }
 {
@@ -41,16 +42,18 @@ fn has_all(value: &Value, names: &[&str]) -> bool
     names.iter().all(|name| value.get(*name).is_some())
 }
 
-/// Whether it is an object with exactly these keys.
+/// Whether the value is an object with exactly these keys: as many members as names, and each name
+/// among them. It takes no memory.
 pub fn has_keys(value: &Value, names: &[&str]) -> bool
     ensures { result ≡ has_keys (map (λ name. name.now) names.now) (view value.now) }
 {
     has_members(value, names.len()) && has_all(value, names)
 }
 
-/// Asks for an object with exactly these keys.
+/// Asks for an object with exactly these keys, as `has_keys` tells; else the fault is `wrong`. It takes
+/// no memory.
 pub fn keyed(wrong: FormFault, value: &Value, names: &[&str]) -> Result<(), FormFault>
-    ensures { Gives (λ _. tt) result
+    ensures { GivesExactly (λ _. tt) result
         (when (has_keys (map (λ name. name.now) names.now) (view value.now)) wrong) }
 {
     if has_keys(value, names) {
@@ -60,7 +63,7 @@ pub fn keyed(wrong: FormFault, value: &Value, names: &[&str]) -> Result<(), Form
     }
 }
 
-/// The entries of a list.
+/// The entries of a list, and None of any other value.
 pub(crate) fn list_of(value: Option<&Value>) -> Option<&[Value]>
     ensures { option_map (λ list. map view list.now) result
         ≡ option_and_then list_of (option_map (λ v. view v.now) value.entry) }
@@ -71,9 +74,10 @@ pub(crate) fn list_of(value: Option<&Value>) -> Option<&[Value]>
     }
 }
 
-/// The list at a key.
+/// The entries of the list at a key. The fault is `wrong` where the value is no object, lacks the key,
+/// or has no list there. It takes no memory.
 pub fn list_at<'v>(wrong: FormFault, value: &'v Value, key: &str) -> Result<&'v [Value], FormFault>
-    ensures { Gives (λ list. map view list.now) result
+    ensures { GivesExactly (λ list. map view list.now) result
         (list_at wrong key.now (view value.now)) }
 {
     match list_of(value.get(key)) {
@@ -82,8 +86,10 @@ pub fn list_at<'v>(wrong: FormFault, value: &'v Value, key: &str) -> Result<&'v 
     }
 }
 
+/// The whole number at a key, below 2^64 and written without sign, point or exponent; else the fault
+/// is `wrong`. It takes no memory.
 pub(crate) fn number_at(wrong: FormFault, value: &Value, key: &str) -> Result<usize, FormFault>
-    ensures { Gives (λ n. n) result (number_at wrong key.now (view value.now)) }
+    ensures { GivesExactly (λ n. n) result (number_at wrong key.now (view value.now)) }
 {
     match value.get(key).and_then(Value::as_u64) {
         Some(number) => Ok(number as usize),
@@ -91,9 +97,10 @@ pub(crate) fn number_at(wrong: FormFault, value: &Value, key: &str) -> Result<us
     }
 }
 
-/// The string at a key.
+/// The string at a key. The fault is `wrong` where the value is no object, lacks the key, or has no
+/// string there. It takes no memory.
 pub fn text_at<'v>(wrong: FormFault, value: &'v Value, key: &str) -> Result<&'v str, FormFault>
-    ensures { Gives (λ text. text.now) result (text_at wrong key.now (view value.now)) }
+    ensures { GivesExactly (λ text. text.now) result (text_at wrong key.now (view value.now)) }
 {
     match value.get(key).and_then(Value::as_str) {
         Some(text) => Ok(text),

@@ -83,7 +83,7 @@ pub(crate) fn node_value(alloc: Global, node: &Node) -> Result<Value, AllocError
     }
 }
 
-/// The list of the values of nodes.
+/// The JSON list of nodes, in their order. The error is want of memory.
 pub fn nodes_value(alloc: Global, nodes: &[Node]) -> Result<Value, AllocError>
     ensures { IfOk result (λ value. view value ≡ nodes_data nodes.now) }
 {
@@ -151,7 +151,8 @@ fn maps_value(alloc: Global, maps: &[MapEntry]) -> Result<Value, AllocError>
     Ok(Value::Array(values))
 }
 
-/// The value of a document.
+/// The JSON value of a document: its format and its four lists, each in its order. The error is want of
+/// memory.
 pub fn document_value(alloc: Global, document: &Document) -> Result<Value, AllocError>
     ensures { IfOk result (λ value. view value ≡ document_data document.now) }
 {
@@ -163,7 +164,9 @@ pub fn document_value(alloc: Global, document: &Document) -> Result<Value, Alloc
     })
 }
 
-/// The text of a document, without a newline.
+/// The text of a document, without a newline: compact JSON, with the keys of each object in the order of
+/// their bytes. It is read as the same document again (`documents_are_read_back`). The error is want of
+/// memory.
 pub fn document_text(alloc: Global, document: &Document) -> Result<Vec<u8>, AllocError>
     ensures { IfOk result (λ text. text.items ≡ text_of_document document.now) }
 {

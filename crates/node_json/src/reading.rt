@@ -16,7 +16,7 @@ use serde_json::Value;
 use std::alloc::Global;
 use std::collections::BTreeSet;
 
-/// The fault of a field as a whole.
+/// The fault of a field as a whole, and of no single entry of its list.
 pub fn field_fault(field: Field) -> FormFault
     ensures { result ≡ FormFault.Form field None }
 {
@@ -71,7 +71,12 @@ fn document_of(alloc: Global, value: &Value) -> Result<Document, FormFault>
     entries_of(alloc, read, value)
 }
 
-/// The document that the bytes are, or the first form fault that they have.
+/// The document that the bytes are. Else the fault is that of the first test that fails: that they are
+/// JSON, the keys of the document, its format, the nodes in order, and then the generators, the
+/// diagrams and the maps in order. `NoMemory` may come in place of any answer.
+///
+/// A document that is given has the form of one: each place is that of an earlier node or of one of the
+/// right kind, labels are within the limits, and names are good, no two of them the same.
 pub fn read_document(alloc: Global, bytes: &[u8]) -> Result<Document, FormFault>
     ensures exact { Gives (λ document. document) result (exact_document bytes.now) }
     ensures not_json { result ≡ Err FormFault.NotJson → json_of bytes.now ≡ None }

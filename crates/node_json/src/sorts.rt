@@ -1,13 +1,10 @@
 ghost use Rattle.std.specs.Prelude.{◌≡◌, slice_index_or};
 ghost use Rattle.diagram_terms.specs.Nodes.{all_below, places_below, is_of, all_of, rises_from, diagram_lengths, diagram_over, arrow_over, first_sort, sort_of};
-ghost use Rattle.node_json.specs.Step.{Gives};
+ghost use Rattle.node_json.specs.Step.{GivesExactly};
 ghost use Rattle.node_json.specs.NodeForms.{sort_behind};
 
 use crate::fault::FormFault;
-use diagram_terms::{Node, Sort};
-
-/// The greatest dimension of a slice.
-const GREATEST_SLICE: usize = 5;
+use diagram_terms::{GREATEST_DIM, Node, Sort};
 
 fn all_below(limit: usize, places: &[usize]) -> bool
     ensures { result ≡ all_below limit places.now }
@@ -108,7 +105,7 @@ fn diagram_over(
     let Sort::Diagram(dim) = first_sort(sorts, regs) else {
         return None;
     };
-    let fits = dim <= GREATEST_SLICE
+    let fits = dim < GREATEST_DIM
         && all_of(sorts, Sort::Diagram(dim), regs)
         && all_of(sorts, Sort::Diagram(dim), sings)
         && all_of(sorts, Sort::Arrow(dim), fwds)
@@ -126,7 +123,7 @@ fn arrow_over(sorts: &[Sort], regs: &[usize], sings: &[usize]) -> Option<Sort>
     let Sort::Arrow(dim) = first_sort(sorts, regs) else {
         return None;
     };
-    let fits = dim <= GREATEST_SLICE
+    let fits = dim < GREATEST_DIM
         && all_of(sorts, Sort::Arrow(dim), regs)
         && all_of(sorts, Sort::Arrow(dim), sings);
     if fits {
@@ -177,7 +174,7 @@ fn arrow_sort(sorts: &[Sort], heights: &[usize], regs: &[usize], sings: &[usize]
 
 /// The sort of a node behind nodes of these sorts.
 pub(crate) fn sort_behind(sorts: &[Sort], node: &Node) -> Result<Sort, FormFault>
-    ensures { Gives (λ sort. sort) result (sort_behind sorts.now node.now) }
+    ensures { GivesExactly (λ sort. sort) result (sort_behind sorts.now node.now) }
 {
     let place = sorts.len();
     if !places_below(place, node) {

@@ -1,27 +1,12 @@
 -- What is printed for a reply has no float.
-use Rattle.std.proofs.Common.{◌≡◌, ℕ, List, false, Option, Some, None, refl}
+use Rattle.std.proofs.Common.{◌≡◌, false, Some, None, refl}
 use Rattle.serde_json.specs.Written.{has_float}
-use Rattle.node_json.specs.declared.document.Document.{Document}
-use Rattle.node_json.specs.Printing.{node_data, named_data, generator_data, diagram_data, map_data, document_data}
-use Rattle.node_json.proofs.PrintedLists.{items_no_float}
-use Rattle.node_json.proofs.PrintedText.{node_no_float}
+use Rattle.node_json.proofs.ForCallers.{nodes_no_float, document_no_float}
 use Rattle.workspace_json.specs.declared.refusal.Refusal.{Refusal}
 use Rattle.workspace_json.specs.declared.refusal.Refusal.TheVariants as refusal
 use Rattle.workspace_json.specs.declared.reply.Reply.{Reply}
 use Rattle.workspace_json.specs.declared.reply.Reply.TheVariants as reply
 use Rattle.workspace_json.specs.Replies.{refusal_data, reply_data}
-
-named_no_float : (name : List ℕ) (boundary : Option (ℕ × ℕ)) → has_float (named_data name boundary) ≡ false
-named_no_float name None = refl
-named_no_float name (Some (i, j)) = refl
-
-pub document_no_float : (document : Document) → has_float (document_data document) ≡ false
-document_no_float document =
-    let diagrams = items_no_float diagram_data (λ d. refl) document.diagrams in
-    let generators = items_no_float generator_data (λ g. named_no_float g.name g.boundary) document.generators in
-    let maps = items_no_float map_data (λ m. refl) document.maps in
-    let nodes = items_no_float node_data node_no_float document.nodes in
-    rw (diagrams, generators, maps, nodes) refl
 
 refusal_no_float : (r : Refusal) → has_float (refusal_data r) ≡ false
 refusal_no_float refusal.NameBad = refl
@@ -42,7 +27,7 @@ reply_no_float (reply.Look dim length name (Some p)) = refl
 reply_no_float (reply.Generator dim name number) = refl
 reply_no_float (reply.Stored dim length name w) = refl
 reply_no_float (reply.Named name w) = refl
-reply_no_float (reply.Slice nodes root) = let listed = items_no_float node_data node_no_float nodes in rw listed refl
+reply_no_float (reply.Slice nodes root) = let listed = nodes_no_float nodes in rw listed refl
 reply_no_float (reply.Equal value) = refl
 reply_no_float (reply.Stats arrows diagrams generators maps named) = refl
 reply_no_float (reply.Save document) = let saved = document_no_float document in rw saved refl

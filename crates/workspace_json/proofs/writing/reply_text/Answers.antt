@@ -1,5 +1,5 @@
 use Rattle.workspace_json.specs.Replies.{reply_data}
-use Rattle.node_json.proofs.PrintedText.{compact_text_of}
+use Rattle.node_json.proofs.ForCallers.{compact_text_of}
 use Rattle.workspace_json.proofs.ReplyTexts.{reply_no_float}
 use Rattle.workspace_json.proofs.writing.reply_text.Goals as goal
 
