@@ -15,9 +15,9 @@ use Rattle.workspace_json.specs.declared.reply.Reply.{Reply}
 use Rattle.node_json.specs.Documents.{IsDocument, IsDiagramPlace}
 use Rattle.workspace_json.specs.Paths.{path_in}
 use Rattle.workspace_json.specs.Replies.{text_of_reply}
-use Rattle.workspace_json.specs.Steps.{◌>>=◌, or_refuse, slice_found}
+use Rattle.workspace_json.specs.Steps.{◌>>=◌, or_refuse, reply_of, slice_found}
 use Rattle.hom_cli.specs.declared.status.Status.TheVariants as status
-use Rattle.hom_cli.specs.Full.{Run, is_yes, line, replying, root_of, reply_of, slice_question, slice_reply}
+use Rattle.hom_cli.specs.Full.{Run, is_yes, line, replying, root_of, slice_question, slice_reply}
 use Rattle.hom_cli.specs.Modes.{question_run}
 
 -- ---- the diagram of a name

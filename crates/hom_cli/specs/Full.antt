@@ -18,7 +18,6 @@ use Rattle.node_json.specs.declared.document.DiagramEntry.{DiagramEntry}
 use Rattle.node_json.specs.declared.document.Document.{Document}
 use Rattle.node_json.specs.declared.fault.FormFault.{FormFault}
 use Rattle.workspace_json.specs.declared.reply.Reply.{Reply}
-use Rattle.workspace_json.specs.declared.refusal.Refusal.{Refusal}
 use Rattle.workspace_json.specs.declared.refusal.Refusal.TheVariants.{Unknown}
 use Rattle.workspace_json.specs.declared.command.Command.{Command}
 use Rattle.workspace_json.specs.declared.reply.Reply.TheVariants.{Look, Refused, Generator, Stored, Named, Slice, Equal, Stats, Save, Undo, Redo}
@@ -27,7 +26,7 @@ use Rattle.workspace_json.specs.Paths.{path_in}
 use Rattle.node_json.specs.Reading.{exact_document}
 use Rattle.workspace_json.specs.Replies.{text_of_reply, text_of_fault}
 use Rattle.workspace_json.specs.Sessions.{Session, new_session, step}
-use Rattle.workspace_json.specs.Steps.{◌>>=◌, or_refuse, slice_found}
+use Rattle.workspace_json.specs.Steps.{◌>>=◌, or_refuse, reply_of, slice_found}
 use Rattle.hom_cli.specs.declared.status.Status.{Status}
 use Rattle.hom_cli.specs.declared.status.Status.TheVariants as status
 
@@ -112,11 +111,6 @@ look_reply nodes entry = tree_reply entry.name (tree_at nodes entry.root)
 -- the place of the diagram of this name
 abbrev pub root_of : List ℕ → List DiagramEntry → Option ℕ
 root_of name entries = option_map (λ e. e.root) (find (λ e. bytes_eq e.name name) entries)
-
--- a reply, or a refusal as one
-abbrev pub reply_of : Result Reply Refusal → Reply
-reply_of (Ok reply) = reply
-reply_of (Err refusal) = Refused refusal
 
 -- what `slice` says of the diagram of this name, as a session says it of a term
 abbrev pub slice_reply : Document → List ℕ → List Height → Reply

@@ -42,7 +42,7 @@ fn answer_to(
             Ok((reply_text(alloc, &reply)?, is_yes(&reply)))
         }
         Err(FormFault::NoMemory) => Err(AllocError),
-        Err(fault) => Ok((form_text(alloc, fault)?, false)),
+        Err(fault) => Ok((form_text(alloc, &fault)?, false)),
     }
 }
 

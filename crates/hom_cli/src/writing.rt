@@ -61,7 +61,7 @@ pub(crate) fn write_fault<K: Sink>(
     ensures cause { IsErrOf result WriteAllFault.WriteFault
         → Rose (K.faults output.old) (K.faults output.new) }
 {
-    write_line(output, form_text(alloc, fault)?)?;
+    write_line(output, form_text(alloc, &fault)?)?;
     Ok(Status::Form)
 }
 

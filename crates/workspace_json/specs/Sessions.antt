@@ -7,7 +7,7 @@ use Rattle.workspace_json.specs.declared.refusal.Refusal.{Refusal}
 use Rattle.workspace_json.specs.declared.refusal.Refusal.TheVariants as refusal
 use Rattle.workspace_json.specs.declared.reply.Reply.{Reply}
 use Rattle.workspace_json.specs.declared.reply.Reply.TheVariants as reply
-use Rattle.workspace_json.specs.Steps.{Changed, boundary_change, drop_change, equal_answer, generator_change, identity_change, save_answer, slice_answer, stats_answer}
+use Rattle.workspace_json.specs.Steps.{Changed, boundary_change, drop_change, equal_answer, generator_change, identity_change, reply_of, save_answer, slice_answer, stats_answer}
 use Rattle.workspace_json.specs.Workspaces.{IsWorkspace, Workspace, empty_workspace}
 
 -- The past has the workspaces before each accepted change that is not undone, the latest first. The future has those that
@@ -51,8 +51,7 @@ change s (Ok c) = record { reply = c.reply; session = record { present = c.works
 change s (Err r) = record { reply = reply.Refused r; session = s }
 
 abbrev pub read : Session → Result Reply Refusal → Stepped
-read s (Ok r) = record { reply = r; session = s }
-read s (Err r) = record { reply = reply.Refused r; session = s }
+read s answer = record { reply = reply_of answer; session = s }
 
 -- one of two replies, by whether there is a session to go to
 abbrev pub go : Session → Reply → Refusal → Option Session → Stepped

@@ -1,6 +1,7 @@
 -- What each command does to a workspace: the first refusal in the order of its tests, or else its reply and the workspace
 -- after it.
-use Rattle.std.specs.Prelude.{ℕ, suc, List, [], ◌∷◌, length, Bool, true, false, ◌==◌, nat_le, nat_lt, Option, Some, None, is_none, Result, Ok, Err, ⊤}
+use Rattle.std.specs.Prelude.{ℕ, List, [], ◌∷◌, length, Bool, true, false, nat_lt, Option, Some, None, is_none, Result, Ok, Err, ⊤}
+use Rattle.diagram_terms.specs.declared.limits.TheConstants.{GREATEST_DIM}
 use Rattle.diagram_terms.specs.declared.place.Fault.{Fault}
 use Rattle.diagram_terms.specs.declared.place.Height.{Height}
 use Rattle.diagram_terms.specs.declared.place.Side.{Side}
@@ -10,7 +11,8 @@ use Rattle.diagram_terms.specs.ConeTrees.{identity_diagram_tree}
 use Rattle.diagram_terms.specs.Decoded.{dia}
 use Rattle.diagram_terms.specs.Dimension.{dimension_of}
 use Rattle.diagram_terms.specs.Family.{length_of}
-use Rattle.diagram_terms.specs.Slices.{have_one_boundary, slice_along, source_tree, target_tree}
+use Rattle.diagram_terms.specs.Obstacles.{Obstacle, dim_differs, not_parallel, dim_limit, count_limit, ill_typed, obstacle}
+use Rattle.diagram_terms.specs.Slices.{slice_along, source_tree, target_tree}
 use Rattle.diagram_terms.specs.Tree.{Tree}
 use Rattle.diagram_terms.specs.Typing.{Generator, first_fault_in, generator_dim}
 use Rattle.node_json.specs.Names.{is_good_name}
@@ -87,29 +89,24 @@ known_boundary W (Some (source, target)) = do
   t ← known W target
   Ok (Some (s, t))
 
--- the ends have one dimension and are parallel, and the generator's dimension is within the limit
-abbrev pub allowed_boundary : Generator → Result ⊤ Refusal
-allowed_boundary None = Ok tt
-allowed_boundary (Some (s, t)) = do
-  dims ← refuse_unless (dimension_of s == dimension_of t) refusal.DimDiffers
-  parallel ← refuse_unless (have_one_boundary s t) refusal.NotParallel
-  refuse_unless (nat_le (suc (dimension_of s)) 6) refusal.DimLimit
+-- the refusal that an obstacle is
+abbrev pub refusal_of : Obstacle → Refusal
+refusal_of dim_differs = refusal.DimDiffers
+refusal_of not_parallel = refusal.NotParallel
+refusal_of dim_limit = refusal.DimLimit
+refusal_of count_limit = refusal.CountLimit
+refusal_of (ill_typed f) = refusal.IllTyped f
 
--- the source is well typed, and then the target
-abbrev pub well_typed_boundary : Workspace → Generator → Result ⊤ Refusal
-well_typed_boundary W None = Ok tt
-well_typed_boundary W (Some (s, t)) = do
-  source ← well_typed W s
-  well_typed W t
+abbrev pub no_obstacle : Option Obstacle → Result ⊤ Refusal
+no_obstacle None = Ok tt
+no_obstacle (Some o) = Err (refusal_of o)
 
 -- `generator`: the generator is put last, and its number is that of the generators before it
 unfoldable pub generator_change : Workspace → List ℕ → Option (List ℕ) → Option (List ℕ) → Result Changed Refusal
 generator_change W name source target = do
   new ← new_name W name
   g ← known_boundary W (both source target)
-  allowed ← allowed_boundary g
-  few ← refuse_unless (nat_lt (length W.generators) 60000) refusal.CountLimit
-  typed ← well_typed_boundary W g
+  free ← no_obstacle (obstacle (generators_of W) g)
   Ok record { reply = reply.Generator (generator_dim g) name (length W.generators); workspace = with_generator W name g }
 
 -- `identity`: the identity diagram of a term is stored
@@ -117,7 +114,7 @@ unfoldable pub identity_change : Workspace → List ℕ → List ℕ → Result 
 identity_change W name of = do
   new ← new_name W name
   t ← known W of
-  low ← refuse_unless (nat_lt (dimension_of t) 6) refusal.DimLimit
+  low ← refuse_unless (nat_lt (dimension_of t) GREATEST_DIM) refusal.DimLimit
   stored W word.Identity name (identity_diagram_tree t)
 
 abbrev pub end_of : Side → Tree → Tree
@@ -139,6 +136,11 @@ drop_change W name = do
   Ok record { reply = reply.Named name word.Drop; workspace = without_diagram W name }
 
 -- ---- commands that read the workspace
+
+-- the reply to a question: its answer, or the refusal
+abbrev pub reply_of : Result Reply Refusal → Reply
+reply_of (Ok r) = r
+reply_of (Err r) = reply.Refused r
 
 -- the printed form of one diagram
 abbrev pub printed : Tree → Reply

@@ -1,6 +1,7 @@
 -- A workspace, told by the trees of its generators and of its diagrams, and what a name stands for in it.
 use Rattle.std.specs.Prelude.{◌≡◌, ℕ, suc, ◌≤◌, List, [], ◌∷◌, ◌++◌, length, map, filter, count_by, true, not, bytes_eq, if◌then◌else◌, Option, Some, None}
 use Rattle.std.specs.List.{All, flat_map}
+use Rattle.diagram_terms.specs.declared.limits.TheConstants.{GREATEST_DIM, MAX_GENERATORS}
 use Rattle.diagram_terms.specs.Dimension.{dimension_of}
 use Rattle.diagram_terms.specs.GeneratorTypes.{type_of_generator}
 use Rattle.diagram_terms.specs.Tree.{Tree}
@@ -75,9 +76,9 @@ pub record IsWorkspace (W : Workspace) : Type 0 where
   pub signature : IsGoodSignature (generators_of W)
   pub typed : All (λ d. IsWellTyped (generators_of W) d.tree) W.diagrams
   -- the limits hold
-  pub generator_dims : All (λ g. generator_dim g ≤ 6) (generators_of W)
-  pub diagram_dims : All (λ d. dimension_of d.tree ≤ 6) W.diagrams
-  pub few : length W.generators ≤ 60000
+  pub generator_dims : All (λ g. generator_dim g ≤ GREATEST_DIM) (generators_of W)
+  pub diagram_dims : All (λ d. dimension_of d.tree ≤ GREATEST_DIM) W.diagrams
+  pub few : length W.generators ≤ MAX_GENERATORS
 
 -- ---- its trees
 

@@ -1,6 +1,6 @@
 ghost use Rattle.std.specs.Prelude.{◌≡◌, map};
 ghost use Rattle.serde_json.specs.View.{view};
-ghost use Rattle.node_json.specs.Step.{Gives};
+ghost use Rattle.node_json.specs.Step.{Gives, GivesExactly};
 ghost use Rattle.workspace_json.specs.Commands.{text_in, keyed, side_of, side_in, heights_of, heights_at, point_row, cell_row, generator_row, identity_row, boundary_row, slice_row, equal_row, drop_row, bare_row, row_of, command_of, exact_command};
 
 use crate::command::Command;
@@ -13,14 +13,14 @@ use std::alloc::Global;
 
 /// Asks for exactly these keys.
 fn keyed(value: &Value, keys: &[&str]) -> Result<(), FormFault>
-    ensures { Gives (λ _. tt) result (keyed (map (λ key. key.now) keys.now) (view value.now)) }
+    ensures { GivesExactly (λ _. tt) result (keyed (map (λ key. key.now) keys.now) (view value.now)) }
 {
     node_json::keyed(field_fault(Field::Command), value, keys)
 }
 
 /// The string of a field, at the key that is the field's word.
 fn str_in<'v>(field: Field, value: &'v Value) -> Result<&'v str, FormFault>
-    ensures { Gives (λ text. text.now) result (text_in field (view value.now)) }
+    ensures { GivesExactly (λ text. text.now) result (text_in field (view value.now)) }
 {
     text_at(field_fault(field), value, field_word(field))
 }
@@ -28,8 +28,7 @@ fn str_in<'v>(field: Field, value: &'v Value) -> Result<&'v str, FormFault>
 fn text_in(alloc: Global, field: Field, value: &Value) -> Result<Text, FormFault>
     ensures { Gives (λ text. text) result (text_in field (view value.now)) }
 {
-    let text = str_in(field, value)?;
-    Ok(Text::from_string(String::from_str(alloc, text)?))
+    Ok(Text::from_str(alloc, str_in(field, value)?)?)
 }
 
 fn side_of(word: &str) -> Option<Side>
@@ -43,7 +42,7 @@ fn side_of(word: &str) -> Option<Side>
 }
 
 fn side_in(value: &Value) -> Result<Side, FormFault>
-    ensures { Gives (λ side. side) result (side_in (view value.now)) }
+    ensures { GivesExactly (λ side. side) result (side_in (view value.now)) }
 {
     match side_of(str_in(Field::Side, value)?) {
         Some(side) => Ok(side),
@@ -160,7 +159,7 @@ fn drop_row(alloc: Global, value: &Value) -> Result<Command, FormFault>
 
 /// A command that is its word alone.
 fn bare_row(command: Command, value: &Value) -> Result<Command, FormFault>
-    ensures { Gives (λ command. command) result (bare_row command (view value.now)) }
+    ensures { GivesExactly (λ command. command) result (bare_row command (view value.now)) }
 {
     keyed(value, &["do"])?;
     Ok(command)
@@ -195,7 +194,9 @@ fn command_of(alloc: Global, value: &Value) -> Result<Command, FormFault>
     row_of(alloc, str_in(Field::Do, value)?, value)
 }
 
-/// The command that a line is, without its newline, or the first form fault that it has.
+/// The command that a line is, which stands here without its newline. Else the fault is that of the
+/// first test that fails: that it is JSON, an object, has one of the words at `do`, has exactly the keys
+/// of that word, and then its fields in order. `NoMemory` may come in place of any answer.
 pub fn read_command(alloc: Global, line: &[u8]) -> Result<Command, FormFault>
     ensures { Gives (λ command. command) result (exact_command line.now) }
 {

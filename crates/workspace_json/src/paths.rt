@@ -35,7 +35,8 @@ fn number_in(digits: &str) -> Option<usize>
 }
 
 /// The height that a word is: `r` and the number of a regular height, or `s` and the number of a
-/// singular one.
+/// singular one, counted from 0 and below 2^32, in decimal digits without a leading zero. None where the
+/// word is none. It takes no memory.
 pub fn height_of(word: &str) -> Option<Height>
     ensures { result ≡ height_in word.now }
 {
@@ -55,7 +56,8 @@ pub fn is_path(word: &str) -> bool
     word == "." || word.split(',').all(|step| height_of(step).is_some())
 }
 
-/// The path that a word is: `.` for the empty one, or heights with one comma between them.
+/// The path that a word is: `.` for the empty one, or heights with one comma between them, outermost
+/// first. None where the word is none; the error is want of memory.
 pub fn path_of(alloc: Global, word: &str) -> Result<Option<Items<Height>>, AllocError>
     ensures { IfOk result (λ path. path ≡ path_in word.now) }
 {

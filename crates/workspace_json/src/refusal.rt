@@ -3,7 +3,7 @@ use diagram_terms::{Fault, Text};
 /// Why a command or a question has no effect and no answer.
 #[derive(Debug, Drop)]
 pub enum Refusal {
-    /// The name is no good name: it has no byte or more than 64, or a byte that no name has.
+    /// The name is no good name: it is empty or too long, or has a byte that no name has.
     NameBad,
     /// The name stands for something already.
     NameTaken,
@@ -13,9 +13,9 @@ pub enum Refusal {
     DimDiffers,
     /// The source and the target of a generator have not one source and one target.
     NotParallel,
-    /// The dimension would be above 6.
+    /// The dimension would be above the greatest.
     DimLimit,
-    /// There are 60,000 generators.
+    /// There are as many generators as there may be.
     CountLimit,
     /// The step of the path, counted from 0, names no height of its slice.
     NoHeight { step: usize },

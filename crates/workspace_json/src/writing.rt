@@ -168,7 +168,8 @@ fn reply_value(alloc: Global, reply: &Reply) -> Result<Value, AllocError>
     }
 }
 
-/// The line of a reply, without its newline.
+/// The line of a reply, without its newline: one object as compact JSON, with its keys in the order of
+/// their bytes. The error is want of memory.
 pub fn reply_text(alloc: Global, reply: &Reply) -> Result<Vec<u8>, AllocError>
     ensures { IfOk result (λ text. text.items ≡ text_of_reply reply.now) }
 {
@@ -199,11 +200,11 @@ pub(crate) fn field_word(field: Field) -> &'static str
     }
 }
 
-fn fault_value(alloc: Global, fault: FormFault) -> Result<Value, AllocError>
-    requires { fault ≢ FormFault.NoMemory }
-    ensures { IfOk result (λ value. view value ≡ fault_data fault) }
+fn fault_value(alloc: Global, fault: &FormFault) -> Result<Value, AllocError>
+    requires { fault.now ≢ FormFault.NoMemory }
+    ensures { IfOk result (λ value. view value ≡ fault_data fault.now) }
 {
-    match fault {
+    match *fault {
         FormFault::NotJson => json!(in alloc; {"refused": "NotJson"}),
         FormFault::Form { field, entry: None } =>
             json!(in alloc; {"field": field_word(field), "refused": "Form"}),
@@ -219,10 +220,11 @@ fn fault_value(alloc: Global, fault: FormFault) -> Result<Value, AllocError>
     }
 }
 
-/// The line of a form fault, without its newline.
-pub fn form_text(alloc: Global, fault: FormFault) -> Result<Vec<u8>, AllocError>
-    requires { fault ≢ FormFault.NoMemory }
-    ensures { IfOk result (λ text. text.items ≡ text_of_fault fault) }
+/// The line of a form fault, without its newline: one object as compact JSON, with its keys in the order
+/// of their bytes. Want of memory is no fault of the bytes and has no line. The error is want of memory.
+pub fn form_text(alloc: Global, fault: &FormFault) -> Result<Vec<u8>, AllocError>
+    requires { fault.now ≢ FormFault.NoMemory }
+    ensures { IfOk result (λ text. text.items ≡ text_of_fault fault.now) }
 {
     fault_value(alloc, fault)?.to_vec(alloc)
 }

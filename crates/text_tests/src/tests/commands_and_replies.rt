@@ -10,7 +10,7 @@ fn look(alloc: Global, name: &str, at: Option<Place>) -> Result<Reply, Fail> {
     Ok(Reply::Look {
         dim: 1,
         length: 2,
-        name: Text::from_string(String::from_str(alloc, name)?),
+        name: Text::from_str(alloc, name)?,
         at,
     })
 }
@@ -41,7 +41,7 @@ fn writes_lines(rt: HostRuntime) -> Result<(), Fail> {
     );
     let text = form_text(
         alloc,
-        FormFault::Form {
+        &FormFault::Form {
             field: Field::Diagrams,
             entry: Some(2),
         },
@@ -68,7 +68,7 @@ fn writes_answers(rt: HostRuntime) -> Result<(), Fail> {
         text.as_slice()
             == b"{\"nodes\":[{\"label\":[3,0]},{\"bwds\":[],\"fwds\":[],\"regs\":[0],\"sings\":[]}],\"ok\":\"slice\",\"root\":1}".as_slice()
     );
-    let name = Text::from_string(String::from_str(alloc, "a\"")?);
+    let name = Text::from_str(alloc, "a\"")?;
     let text = reply_text(alloc, &Reply::Refused(Refusal::Unknown { name }))?;
     assert!(rt; text.as_slice() == b"{\"name\":\"a\\\"\",\"refused\":\"Unknown\"}".as_slice());
     let text = reply_text(alloc, &Reply::Refused(Refusal::NoHeight { step: 2 }))?;
@@ -77,7 +77,7 @@ fn writes_answers(rt: HostRuntime) -> Result<(), Fail> {
 }
 
 fn named(alloc: Global, name: &str) -> Result<Text, Fail> {
-    Ok(Text::from_string(String::from_str(alloc, name)?))
+    Ok(Text::from_str(alloc, name)?)
 }
 
 /// The line of the reply is this one.
