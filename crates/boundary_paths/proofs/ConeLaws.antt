@@ -2,6 +2,7 @@
 use Rattle.std.proofs.Common.{◌≡◌, ℕ, zero, suc, ◌<◌, Result, Ok, Err, IfOk, sym, ap, subst, ◌∙◌, arith}
 use Rattle.std.proofs.lemmas.Result.{IfOk-weaker}
 use Rattle.diagram_terms.specs.declared.label.Label.{Label}
+use Rattle.diagram_terms.specs.OnTrees.{on_diagram}
 use Rattle.diagram_terms.specs.Tree.{Tree}
 use Rattle.diagram_terms.specs.Family.{Dia}
 use Rattle.diagram_terms.specs.Decoded.{dia, arr}
@@ -40,7 +41,7 @@ unfolding IsPlainTree
 plain_arrow_from d f h p = subst (λ n. PlainArrow n (arr n f)) (sym (arrow_dimension d f h)) p
 
 labels_at : (n d : ℕ) (t : Tree) → IsDiagram d t → HasLabelsBelowTree n t → HasLabelsBelow n d (dia d t)
-unfolding HasLabelsBelowTree
+unfolding HasLabelsBelowTree on_diagram
 labels_at n d t h b = subst (λ k. HasLabelsBelow n k (dia k t)) (diagram_dimension d t h) b
 
 parallel_at : (d : ℕ) (s t : Tree) → IsDiagram d s → IsDiagram d t → AreParallel s t → Parallel d (dia d s) (dia d t)

@@ -3,6 +3,7 @@ use Rattle.std.proofs.Common.{◌≡◌, ℕ, zero, suc, ◌<◌, List, [], ◌�
 use Rattle.std.proofs.lemmas.List.{get_or-map, length-map, length-replicate, get_or-replicate}
 use Rattle.std.proofs.lemmas.Simd.{splat_is_map}
 use Rattle.diagram_terms.specs.declared.label.Label.{Label}
+use Rattle.diagram_terms.specs.OnTrees.{on_diagram}
 use Rattle.diagram_terms.specs.Tree.{Tree, nil, point, zig, ends, zag, sings, label_at-point}
 use Rattle.diagram_terms.specs.Dual.{tab}
 use Rattle.diagram_terms.specs.Family.{Dia, Arr, no_dia, no_arr, reg, sing, arrow_sing}
@@ -60,19 +61,19 @@ mid-zero y x = refl
 -- ---- at the dimension of a diagram
 
 pub identity_diagram_tree_at : (d : ℕ) (t : Tree) → IsDiagram d t → identity_diagram_tree t ≡ dia_tree (suc d) (identity_diagram d (dia d t))
-unfolding identity_diagram_tree
+unfolding identity_diagram_tree on_diagram
 identity_diagram_tree_at d t h = ap (λ n. dia_tree (suc n) (identity_diagram n (dia n t))) (diagram_dimension d t h)
 
 pub cone_tree_at : (d : ℕ) (t : Tree) (x : Label) → IsDiagram d t → cone_tree t x ≡ arr_tree d (cone d (dia d t) x)
-unfolding cone_tree
+unfolding cone_tree on_diagram
 cone_tree_at d t x h = ap (λ n. arr_tree n (cone n (dia n t) x)) (diagram_dimension d t h)
 
 pub mid_tree_at : (d : ℕ) (t : Tree) (x : Label) → IsDiagram d t → mid_tree t x ≡ dia_tree d (mid d (dia d t) x)
-unfolding mid_tree
+unfolding mid_tree on_diagram
 mid_tree_at d t x h = ap (λ n. dia_tree n (mid n (dia n t) x)) (diagram_dimension d t h)
 
 pub type_tree_at : (d : ℕ) (s t : Tree) (x : Label) → IsDiagram d s → type_tree s t x ≡ dia_tree (suc d) (type_over d (dia d s) (dia d t) x)
-unfolding type_tree
+unfolding type_tree on_diagram
 type_tree_at d s t x h = ap (λ n. dia_tree (suc n) (type_over n (dia n s) (dia n t) x)) (diagram_dimension d s h)
 
 -- ---- over a label

@@ -1,6 +1,7 @@
 -- A label is a diagram of dimension 0 that is valid and plain.
 use Rattle.std.proofs.Common.{◌≡◌, ℕ, zero, ◌<◌, refl, sym, subst}
 use Rattle.diagram_terms.specs.declared.label.Label.{Label}
+use Rattle.diagram_terms.specs.OnTrees.{on_diagram}
 use Rattle.diagram_terms.specs.Tree.{point, label_at-point}
 use Rattle.diagram_terms.specs.Cone.{HasLabelsBelow}
 use Rattle.diagram_terms.specs.Decoded.{dia}
@@ -25,7 +26,7 @@ unfolding IsPlainDiagramTree
 plain-point x = subst (λ n. Plain n (dia n (point x))) (sym (dimension_of-point x)) tt
 
 labels-point : (n : ℕ) (x : Label) → x.dim < n → HasLabelsBelowTree n (point x)
-unfolding HasLabelsBelowTree
+unfolding HasLabelsBelowTree on_diagram
 labels-point n x l =
     subst (λ d. HasLabelsBelow n d (dia d (point x))) (sym (dimension_of-point x)) (subst (λ (y : Label). y.dim < n) (sym (label_at-point x)) l)
 

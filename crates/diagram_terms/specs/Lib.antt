@@ -50,6 +50,7 @@ pub mod TypeCheck
 pub mod CarriedRegions
 pub mod SignatureMaps
 pub mod Places
+pub mod FaultsOnTrees
 pub mod Order
 pub mod SameDiagrams
 pub mod Tested

@@ -5,6 +5,7 @@ use Rattle.diagram_terms.specs.declared.node.Node.{Node}
 use Rattle.diagram_terms.specs.declared.node.Sort.{Sort}
 use Rattle.diagram_terms.specs.declared.node.Sort.TheVariants as sort
 use Rattle.diagram_terms.specs.declared.place.Place.{Place}
+use Rattle.diagram_terms.specs.FaultsOnTrees.{diagram_fault}
 use Rattle.diagram_terms.specs.Tree.{Tree}
 use Rattle.diagram_terms.specs.Decoded.{dia}
 use Rattle.diagram_terms.specs.Places.{first_bad_place}
@@ -19,7 +20,6 @@ use Rattle.hashcons.specs.declared.id.AnyId.TheVariants as id
 use Rattle.hashcons.specs.Contents.{Contents, IsStore, diagram_at}
 use Rattle.hashcons.specs.Ids.{IsOf, GathersIds, id_at, tree_of}
 use Rattle.node_json.specs.Documents.{IsDiagramPlace}
-use Rattle.zigzag_maps.specs.Visits.{diagram_fault}
 
 module _ (c : Contents) (ids : List AnyId) (n : ℕ) (f : ℕ → Tree) (held : GathersIds c ids n f) (place : ℕ) (x : AnyId)
     (found : slice_get ids place ≡ Some x) where

@@ -1,9 +1,10 @@
 ghost use Rattle.std.specs.Prelude.{◌≡◌, IfOk, OnOk, slice_get};
+ghost use Rattle.diagram_terms.specs.FaultsOnTrees.{diagram_fault};
 ghost use Rattle.diagram_terms.specs.Nodes.{AreNodes, tree_at};
 ghost use Rattle.hashcons.specs.Contents.{Grows, IsArrowOf, IsDiagramOf};
 ghost use Rattle.node_json.specs.Documents.{IsDiagramPlace};
 ghost use Rattle.zigzag_maps.specs.Found.{IsValidMap};
-ghost use Rattle.zigzag_maps.specs.Visits.{diagram_fault, fault_of};
+ghost use Rattle.zigzag_maps.specs.Visits.{fault_of};
 
 use crate::unshared::unshared;
 use diagram_terms::{Node, Place, first_bad_square};

@@ -11,6 +11,7 @@ use Rattle.diagram_terms.specs.Decoded.{dia}
 use Rattle.diagram_terms.specs.Dimension.{dimension_of}
 use Rattle.diagram_terms.specs.Dual.{upto}
 use Rattle.diagram_terms.specs.Family.{Dia, reg, sing}
+use Rattle.diagram_terms.specs.OnTrees.{on_diagram}
 use Rattle.diagram_terms.specs.Points.{Point, point_inside, inside, points}
 use Rattle.diagram_terms.specs.Slices.{AreParallel}
 use Rattle.diagram_terms.specs.Tree.{Tree, point}
@@ -103,7 +104,7 @@ unfolding IsPlainDiagramTree
 plain_end generators t h = h.typed.plain
 
 labels_end : (generators : List Generator) (t : Tree) (n : ℕ) → dimension_of t < n → IsWellTyped generators t → HasLabelsBelowTree n t
-unfolding HasLabelsBelowTree
+unfolding HasLabelsBelowTree on_diagram
 labels_end generators t n l h = labels_below (dimension_of t) n l (dimension_of t) (dia (dimension_of t) t) h.typed.types
 
 -- ---- what the type over the ends asks, where the label has dimension n

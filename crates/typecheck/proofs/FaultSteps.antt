@@ -4,11 +4,11 @@ use Rattle.diagram_terms.specs.declared.place.Fault.TheVariants as fault
 use Rattle.diagram_terms.specs.declared.place.Step.{Step}
 use Rattle.diagram_terms.specs.Decoded.{dia}
 use Rattle.diagram_terms.specs.Dimension.{dimension_of}
+use Rattle.diagram_terms.specs.FaultsOnTrees.{diagram_fault}
 use Rattle.diagram_terms.specs.Points.{points}
 use Rattle.diagram_terms.specs.Tree.{Tree}
 use Rattle.diagram_terms.specs.Typing.{Generator, first_of}
 use Rattle.plain_maps.specs.Plainness.{loose_leg}
-use Rattle.zigzag_maps.specs.Visits.{diagram_fault}
 use Rattle.diagram_terms.specs.Typing.{first_point_fault_in, first_fault_in}
 use Rattle.typecheck.specs.Points.{HaveDims}
 use Rattle.typecheck.specs.Walk.{first_failing, failing_in, fault_over}

@@ -9,6 +9,7 @@ use Rattle.diagram_terms.specs.Dimension.{dimension_of}
 use Rattle.diagram_terms.specs.Family.{Dia}
 use Rattle.diagram_terms.specs.GeneratorTypes.{label_of, type_of_generator}
 use Rattle.diagram_terms.specs.ConeTrees.{type_tree}
+use Rattle.diagram_terms.specs.OnTrees.{on_diagram}
 use Rattle.diagram_terms.specs.Tree.{Tree, point, label_at-point}
 use Rattle.diagram_terms.specs.Typing.{Generator, generator_dim, has_dim, is_generator}
 use Rattle.diagram_terms.proofs.Glue.{dia-dia_tree}
@@ -23,7 +24,7 @@ use Rattle.typing_laws.proofs.Transfer.{tower_normal, above-minus}
 -- the normal form of a generator's type, from the type
 type_normal : (x : Label) (g : Generator) → generator_dim g ≡ x.dim
     → normal_type x (Some g) ≡ dia_tree x.dim (normal_diagram x.dim (dia x.dim (type_of_generator x.number g)))
-unfolding normal_type normal_form type_tree
+unfolding normal_type normal_form type_tree on_diagram
 type_normal x None e =
     let same : label_of x.number None ≡ x = λ i. record { number = x.number; dim = e i } in
     subst (λ (y : Label). normal_type y (Some None) ≡ dia_tree y.dim (normal_diagram y.dim (dia y.dim (type_of_generator y.number None)))) same
@@ -38,7 +39,7 @@ type_normal x (Some (s, t)) e =
 -- the tree of a type is that of its diagram
 type_tree_again : (x : Label) (g : Generator) → generator_dim g ≡ x.dim
     → type_of_generator x.number g ≡ dia_tree x.dim (dia x.dim (type_of_generator x.number g))
-unfolding type_tree
+unfolding type_tree on_diagram
 type_tree_again x None e =
     let same : label_of x.number None ≡ x = λ i. record { number = x.number; dim = e i } in
     subst (λ (y : Label). type_of_generator y.number None ≡ dia_tree y.dim (dia y.dim (type_of_generator y.number None))) same

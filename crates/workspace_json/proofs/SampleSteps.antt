@@ -11,6 +11,7 @@ use Rattle.diagram_terms.specs.ConeTrees.{identity_diagram_tree, type_tree}
 use Rattle.diagram_terms.specs.Dimension.{dimension_of}
 use Rattle.diagram_terms.specs.Dual.{dual, after}
 use Rattle.diagram_terms.specs.Family.{no_dia, no_arr}
+use Rattle.diagram_terms.specs.OnTrees.{on_diagram}
 use Rattle.diagram_terms.specs.Slices.{slice_at}
 use Rattle.diagram_terms.specs.Tree.{kind, point, zig, ends, zag, regs, sings, fwds, bwds, heights, label_at, from_at, to_at}
 use Rattle.workspace_json.specs.declared.command.Command.{Command}
@@ -24,7 +25,7 @@ use Rattle.workspace_json.specs.Steps.{boundary_change, drop_change, equal_answe
 
 -- what an answer unfolds to run a session that is written out
 unfoldable session_on_literals : ⊤
-unfolding step generator_change identity_change boundary_change drop_change slice_answer equal_answer type_tree identity_diagram_tree type_over mid cone ident dimension_of kind point zig ends zag regs sings fwds bwds heights label_at from_at to_at no_dia no_arr dual after comp children node_of slice_at
+unfolding step generator_change identity_change boundary_change drop_change slice_answer equal_answer type_tree identity_diagram_tree type_over mid cone ident dimension_of kind point zig ends zag regs sings fwds bwds heights label_at from_at to_at no_dia no_arr dual after comp children node_of slice_at on_diagram
 session_on_literals = tt
 
 -- ---- runs

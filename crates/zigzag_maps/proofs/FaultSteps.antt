@@ -3,6 +3,7 @@ use Rattle.std.proofs.Common.{◌≡◌, ℕ, zero, suc, ◌-◌, ◌<◌, ◌�
 use Rattle.std.proofs.lemmas.Bool.{cond-true, and_from, eq-eqb}
 use Rattle.diagram_terms.specs.declared.place.Place.{Place}
 use Rattle.diagram_terms.specs.declared.place.Step.TheVariants as step
+use Rattle.diagram_terms.specs.FaultsOnTrees.{arrow_fault, tests_between}
 use Rattle.diagram_terms.specs.Tree.{Tree, heights, regs, sings}
 use Rattle.diagram_terms.specs.Dimension.{dimension_of}
 use Rattle.diagram_terms.specs.Dual.{dual}
@@ -18,7 +19,7 @@ use Rattle.hashcons.specs.Contents.{Contents, Grows, IsStore, IsDiagramOf, IsArr
 use Rattle.zigzag_maps.specs.declared.map.Map.{Map}
 use Rattle.zigzag_maps.specs.Found.{IsValidDiagram, IsValidMap}
 use Rattle.diagram_terms.specs.ValidTrees.{IsValidTreeAt, IsValidTree}
-use Rattle.zigzag_maps.specs.Visits.{IsMapAt, FitsEnds, arrow_fault, reg_tests, sing_tests, tests_between}
+use Rattle.zigzag_maps.specs.Visits.{IsMapAt, FitsEnds, reg_tests, sing_tests}
 use Rattle.hashcons.proofs.ContentsLemmas.{Grows-refl}
 use Rattle.hashcons.proofs.Growth.{Grows-trans, store-kept, diagram-kept, arrow-kept}
 use Rattle.zigzag_maps.proofs.KeepLemmas.{kept-grows}

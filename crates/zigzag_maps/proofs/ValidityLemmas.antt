@@ -1,6 +1,7 @@
 -- The tests of a diagram, by its slices and its legs.
 use Rattle.std.proofs.Common.{◌≡◌, ℕ, zero, suc, ◌-◌, ◌<◌, ◌≤◌, List, ◌++◌, length, None, refl, sym, ap, subst, ◌∙◌, arith}
 use Rattle.diagram_terms.specs.declared.place.Step.TheVariants as step
+use Rattle.diagram_terms.specs.FaultsOnTrees.{diagram_fault}
 use Rattle.diagram_terms.specs.Tree.{Tree, sings, fwds, bwds}
 use Rattle.diagram_terms.specs.Family.{Dia, reg, sing, fwd, bwd}
 use Rattle.diagram_terms.specs.Decoded.{dia}
@@ -12,7 +13,6 @@ use Rattle.diagram_terms.proofs.FirstFaults.{no_bad_place}
 use Rattle.diagram_terms.proofs.Glue.{dia-sings_len, dia-reg, dia-sing, dia-fwd, dia-bwd}
 use Rattle.zigzag_maps.proofs.Visiting.{same_each}
 use Rattle.diagram_terms.specs.ValidTrees.{IsValidTreeAt}
-use Rattle.zigzag_maps.specs.Visits.{diagram_fault}
 use Rattle.zigzag_maps.specs.Validity.{tests_in, reg_slice_tests, sing_slice_tests, fwd_tests, bwd_tests, leg_tests, legs_of, HasValidParts}
 use Rattle.diagram_terms.specs.Order.{steps, in_order, PassedBefore}
 use Rattle.zigzag_maps.specs.Walks.{IsWalk, tests_in_part, tests_to_part}

@@ -2,6 +2,7 @@
 use Rattle.std.proofs.Common.{◌≡◌, ◌↔◌, ℕ, None, refl, sym, ap, ◌∙◌}
 use Rattle.diagram_terms.specs.declared.place.Place.{Place}
 use Rattle.diagram_terms.specs.Dimension.{dimension_of}
+use Rattle.diagram_terms.specs.FaultsOnTrees.{tests_between}
 use Rattle.diagram_terms.specs.Places.{first_failure}
 use Rattle.diagram_terms.proofs.Dimensions.{diagram_dimension, arrow_dimension}
 use Rattle.hashcons.specs.Contents.{Contents, Grows, diagram_at, arrow_at}
@@ -9,7 +10,7 @@ use Rattle.zigzag_maps.specs.declared.map.Map.{Map}
 use Rattle.zigzag_maps.specs.declared.outcome.SquareTest.{SquareTest}
 use Rattle.zigzag_maps.specs.declared.outcome.SquareTest.TheVariants as test
 use Rattle.zigzag_maps.specs.Found.{IsValidDiagram, IsValidMap}
-use Rattle.zigzag_maps.specs.Visits.{IsMapAt, fault_of, tests_between}
+use Rattle.zigzag_maps.specs.Visits.{IsMapAt, fault_of}
 use Rattle.zigzag_maps.specs.Validity.{IsDiagramAt, tests_in}
 use Rattle.zigzag_maps.proofs.FaultSteps.{map_at-grows, map_trees, valid_map_from, valid_map_passes}
 use Rattle.zigzag_maps.proofs.ValiditySteps.{is_diagram_at-grows, kept_passes, valid_diagram_from}

@@ -5,6 +5,7 @@ use Rattle.diagram_terms.specs.declared.label.Label.{Label}
 use Rattle.diagram_terms.specs.declared.place.Place.{Place}
 use Rattle.diagram_terms.specs.declared.place.Step.TheVariants as step
 use Rattle.diagram_terms.specs.declared.place.End.TheVariants as at_end
+use Rattle.diagram_terms.specs.FaultsOnTrees.{tests_between}
 use Rattle.diagram_terms.specs.Tree.{Tree, point, ends, heights, regs, sings}
 use Rattle.diagram_terms.specs.Dimension.{dimension_of}
 use Rattle.diagram_terms.specs.Dual.{dual}
@@ -20,7 +21,7 @@ use Rattle.diagram_terms.proofs.Shapes.{dia-point, arr-ends, IsArrow-ends}
 use Rattle.diagram_terms.proofs.Visiting.{append_fails, append_passes, here_passes}
 use Rattle.zigzag_maps.proofs.Visiting.{passed_under, passed_each, same_each}
 use Rattle.diagram_terms.specs.ValidTrees.{IsArrowBetweenAt}
-use Rattle.zigzag_maps.specs.Visits.{tests_between, reg_tests, sing_tests, square_holds, square_tests, lengths_are, FitsEnds, HasValidSlices}
+use Rattle.zigzag_maps.specs.Visits.{reg_tests, sing_tests, square_holds, square_tests, lengths_are, FitsEnds, HasValidSlices}
 
 abbrev pub ends_place : Place
 ends_place = record { steps = []; end = at_end.Ends }

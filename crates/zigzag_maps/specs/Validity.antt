@@ -2,6 +2,7 @@
 use Rattle.std.specs.Prelude.{ℕ, suc, ◌<◌, ◌≤◌, List, [], ◌++◌, length}
 use Rattle.diagram_terms.specs.declared.place.Step.{Step}
 use Rattle.diagram_terms.specs.declared.place.Step.TheVariants as step
+use Rattle.diagram_terms.specs.FaultsOnTrees.{tests_between}
 use Rattle.diagram_terms.specs.Tree.{Tree, sings}
 use Rattle.diagram_terms.specs.Dimension.{dimension_of}
 use Rattle.diagram_terms.specs.Shape.{IsDiagram, reg_at, sing_at, fwd_at, bwd_at}
@@ -9,7 +10,6 @@ use Rattle.diagram_terms.specs.Decoded.{dia}
 use Rattle.diagram_terms.specs.Places.{Test, under, tests_of}
 use Rattle.hashcons.specs.Contents.{Contents, IsDiagramOf, diagram_at}
 use Rattle.diagram_terms.specs.ValidTrees.{IsValidTreeAt}
-use Rattle.zigzag_maps.specs.Visits.{tests_between}
 
 -- the tests of a diagram
 unfoldable pub tests_in : Tree → List Test

@@ -1,14 +1,15 @@
 -- The first fault of a map and of a diagram of a store.
-use Rattle.std.specs.Prelude.{◌≡◌, ℕ, suc, ◌-◌, ◌<◌, List, [], length, get_or, Bool, ◌&&◌, nat_eq, if◌then◌else◌, Option, Some, None}
+use Rattle.std.specs.Prelude.{◌≡◌, ℕ, suc, ◌-◌, ◌<◌, List, length, get_or, Bool, ◌&&◌, nat_eq, Option, Some, None}
 use Rattle.diagram_terms.specs.declared.place.Place.{Place}
 use Rattle.diagram_terms.specs.declared.place.Step.TheVariants as step
 use Rattle.diagram_terms.specs.declared.place.End.TheVariants as at_end
+use Rattle.diagram_terms.specs.FaultsOnTrees.{tests_between}
 use Rattle.diagram_terms.specs.Tree.{Tree, heights, regs, sings}
 use Rattle.diagram_terms.specs.Dimension.{dimension_of}
 use Rattle.diagram_terms.specs.Shape.{IsArrow, reg_at, sing_at, fwd_at, bwd_at}
 use Rattle.diagram_terms.specs.Dual.{dual}
 use Rattle.diagram_terms.specs.Decoded.{dia, arr}
-use Rattle.diagram_terms.specs.Places.{Test, here, under, arrow_tests, square_commutes, first_failure, first_bad_place}
+use Rattle.diagram_terms.specs.Places.{Test, here, under, square_commutes}
 use Rattle.hashcons.specs.Contents.{Contents, IsDiagramOf, IsArrowOf, diagram_at, arrow_at}
 use Rattle.zigzag_maps.specs.declared.map.Map.{Map}
 use Rattle.zigzag_maps.specs.declared.outcome.SquareTest.{SquareTest}
@@ -22,10 +23,6 @@ fault_of test.Valid = None
 fault_of (test.Fault p) = Some p
 
 -- ---- an arrow and its ends, all of one dimension
-
--- the tests of an arrow f from s to t
-unfoldable pub tests_between : Tree → Tree → Tree → List Test
-tests_between s t f = arrow_tests (dimension_of f) (dia (dimension_of f) s) (dia (dimension_of f) t) (arr (dimension_of f) f)
 
 -- the tests of its regular slices, of its singular slices and of its squares
 abbrev pub reg_tests : Tree → Tree → Tree → ℕ → List Test
@@ -46,19 +43,6 @@ square_tests s t f k = here (at_end.Square k) (square_holds s t f k)
 -- its lengths are those of its ends
 abbrev pub lengths_are : Tree → Tree → Tree → Bool
 lengths_are s t f = nat_eq (length (heights f)) (length (sings s)) && nat_eq (length (regs f)) (suc (length (sings t)))
-
--- ---- first faults
-
--- of an arrow f from s to t: an arrow of another dimension than an end fails at its ends
-abbrev pub arrow_fault : Tree → Tree → Tree → Option Place
-arrow_fault s t f =
-    if nat_eq (dimension_of s) (dimension_of f) && nat_eq (dimension_of t) (dimension_of f)
-    then first_failure (tests_between s t f)
-    else Some (record { steps = []; end = at_end.Ends })
-
--- of a diagram
-abbrev pub diagram_fault : Tree → Option Place
-diagram_fault t = first_bad_place (dimension_of t) (dia (dimension_of t) t)
 
 -- ---- in a store
 

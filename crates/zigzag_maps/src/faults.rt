@@ -1,12 +1,13 @@
 ghost use Rattle.std.specs.Prelude.{◌≡◌, ◌↔◌, ◌+◌, ◌-◌, ◌<◌, ◌≤◌, IfOk, length, suc, Some, option_map};
 ghost use Rattle.diagram_terms.specs.Dual.{dual};
 ghost use Rattle.diagram_terms.specs.Dimension.{dimension_of};
+ghost use Rattle.diagram_terms.specs.FaultsOnTrees.{arrow_fault, tests_between};
 ghost use Rattle.diagram_terms.specs.Places.{at_each, ends_hold, first_failure, further_in, here};
 ghost use Rattle.diagram_terms.specs.Tree.{heights, regs, sings};
 ghost use Rattle.hashcons.specs.Contents.{IsDiagramOf, IsArrowOf, Grows, IsStore, diagram_at, arrow_at};
 ghost use Rattle.zigzag_maps.specs.Found.{IsValidDiagram, IsValidMap};
 ghost use Rattle.zigzag_maps.specs.Keeps.{AreRight};
-ghost use Rattle.zigzag_maps.specs.Visits.{IsMapAt, FitsEnds, HasValidSlices, arrow_fault, fault_of, lengths_are, reg_tests, sing_tests, square_tests, square_holds, tests_between};
+ghost use Rattle.zigzag_maps.specs.Visits.{IsMapAt, FitsEnds, HasValidSlices, fault_of, lengths_are, reg_tests, sing_tests, square_tests, square_holds};
 
 use crate::commuting::square_fault;
 use crate::composites::dual_from;

@@ -5,7 +5,8 @@ ghost use Rattle.hashcons.specs.Contents.{IsDiagramOf, Grows, IsStore, diagram_a
 ghost use Rattle.zigzag_maps.specs.Found.{IsValidDiagram};
 ghost use Rattle.zigzag_maps.specs.Keeps.{AreRight};
 ghost use Rattle.zigzag_maps.specs.Validity.{IsDiagramAt, HasValidParts, tests_in, legs_of};
-ghost use Rattle.zigzag_maps.specs.Visits.{diagram_fault as diagram_fault_of, fault_of};
+ghost use Rattle.diagram_terms.specs.FaultsOnTrees.{diagram_fault as diagram_fault_of};
+ghost use Rattle.zigzag_maps.specs.Visits.{fault_of};
 
 use crate::faults::{map_fault, outcome_of};
 use crate::growing::{GrowingWalk, grown_in};

@@ -1,9 +1,9 @@
 use Rattle.std.proofs.Common.{◌≡◌, ◌∙◌, ap, List, ℕ, length, subst}
+use Rattle.diagram_terms.specs.FaultsOnTrees.{diagram_fault}
 use Rattle.diagram_terms.specs.Shape.{IsDiagram}
 use Rattle.diagram_terms.specs.Tree.{Tree, sings}
 use Rattle.hashcons.specs.Contents.{diagram_at}
 use Rattle.workspace_json.specs.declared.reply.Reply.TheVariants.{Look}
-use Rattle.zigzag_maps.specs.Visits.{diagram_fault}
 use Rattle.hom_cli.proofs.Looks.{looked}
 use Rattle.hom_cli.proofs.look.looked_at.Goals as goal
 

@@ -1,6 +1,7 @@
 use Rattle.std.proofs.Common.{◌≡◌, ◌+◌, suc, length, IfOk, Option, Some, sym, ap, subst, ◌∙◌, rules, arith}
 use Rattle.diagram_terms.specs.declared.place.Place.{Place}
 use Rattle.diagram_terms.specs.Dual.{dual}
+use Rattle.diagram_terms.specs.FaultsOnTrees.{tests_between}
 use Rattle.diagram_terms.specs.Places.{first_failure, at_each}
 use Rattle.diagram_terms.specs.Tree.{heights, sings}
 use Rattle.diagram_terms.proofs.Dimensions.{arrow_dimension}
@@ -9,7 +10,7 @@ use Rattle.zigzag_maps.proofs.Visiting.{visit_start, visit_fails, visit_passes, 
 use Rattle.hashcons.specs.Contents.{diagram_at, arrow_at}
 use Rattle.hashcons.proofs.ContentsLemmas.{Grows-refl}
 use Rattle.hashcons.proofs.Growth.{Grows-trans}
-use Rattle.zigzag_maps.specs.Visits.{tests_between, reg_tests, sing_tests, square_tests}
+use Rattle.zigzag_maps.specs.Visits.{reg_tests, sing_tests, square_tests}
 use Rattle.zigzag_maps.proofs.CompositeLemmas.{zero_dual}
 use Rattle.zigzag_maps.proofs.CompositeSteps.{dual_rises}
 use Rattle.zigzag_maps.proofs.EdgeSteps.{slicewise-grows}

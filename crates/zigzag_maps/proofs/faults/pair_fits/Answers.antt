@@ -1,8 +1,8 @@
 use Rattle.std.proofs.Common.{sym, ap, ◌∙◌}
 use Rattle.diagram_terms.specs.declared.place.End.TheVariants as at_end
+use Rattle.diagram_terms.specs.FaultsOnTrees.{tests_between}
 use Rattle.diagram_terms.specs.Places.{here}
 use Rattle.diagram_terms.proofs.Dimensions.{diagram_dimension, arrow_dimension}
-use Rattle.zigzag_maps.specs.Visits.{tests_between}
 use Rattle.zigzag_maps.proofs.VisitLemmas.{tests_between-ends}
 use Rattle.zigzag_maps.proofs.faults.pair_fits.Goals as goal
 

@@ -1,9 +1,9 @@
 use Rattle.std.proofs.Common.{◌≡◌, ℕ, suc, ◌+◌, IfOk, Option, ap, ◌∙◌, subst, arith}
 use Rattle.diagram_terms.specs.declared.place.Place.{Place}
+use Rattle.diagram_terms.specs.FaultsOnTrees.{tests_between}
 use Rattle.diagram_terms.specs.Shape.{reg_at}
 use Rattle.hashcons.specs.Contents.{Contents, diagram_at}
 use Rattle.diagram_terms.specs.Places.{first_failure}
-use Rattle.zigzag_maps.specs.Visits.{tests_between}
 use Rattle.zigzag_maps.proofs.ValidityLemmas.{legs_len}
 use Rattle.zigzag_maps.proofs.ValiditySteps.{bwd_leg}
 use Rattle.zigzag_maps.proofs.validity.bwd_fault.Goals as goal
