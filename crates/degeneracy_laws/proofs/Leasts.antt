@@ -1,5 +1,6 @@
 -- A degeneracy with a reduced source is the least, and there is one least degeneracy.
 use Rattle.std.proofs.Common.{◌≡◌, ℕ, zero, suc, ◌<◌, List, length, sym, ap, ◌∙◌, subst, arith, inl}
+use Rattle.diagram_terms.specs.declared.place.Keep.TheVariants as keep
 use Rattle.diagram_terms.specs.Family.{Dia, Arr}
 use Rattle.diagram_terms.specs.Composite.{comp, ident}
 use Rattle.diagram_terms.specs.Valid.{ValidArrow, Valid}
@@ -90,7 +91,7 @@ least_is_unique d T R S legs a b x y =
 
 -- ---- the least for its own factors
 
-module _ (d : ℕ) (T S : Dia d) (legs gs : List (Leg d)) (a : Arr d) (x : IsLeast d T legs S a) (f : LegsFactorBy d legs S a gs) where
+module _ (d : ℕ) (T S : Dia d) (legs gs : List (Leg d)) (a : Arr d) (x : IsLeast keep.Free d T legs S a) (f : LegsFactorBy d legs S a gs) where
   at_leg : (i : ℕ) → i < length gs → i < length legs
   at_leg i l = let n = f.count in omega arith
 
@@ -133,7 +134,7 @@ module _ (d : ℕ) (T S : Dia d) (legs gs : List (Leg d)) (a : Arr d) (x : IsLea
           },
         )
 
-  least_of_factors : IsLeast d S gs S (ident d S)
+  least_of_factors : IsLeast keep.Free d S gs S (ident d S)
   least_of_factors = record {
     valid = x.valid;
     degeneracy = identities_are_degeneracies d S x.valid;

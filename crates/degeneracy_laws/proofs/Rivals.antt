@@ -1,6 +1,7 @@
 -- A degeneracy a : S → T whose source is reduced for some legs into S, and a rival e : R → T: the legs, followed by a,
 -- factor through e.
 use Rattle.std.proofs.Common.{◌≡◌, ℕ, suc, ◌<◌, ◌≤◌, length, sym, ap, ◌∙◌, subst, arith, inl, inr}
+use Rattle.diagram_terms.specs.declared.place.Keep.TheVariants as keep
 use Rattle.diagram_terms.specs.Family.{Dia, Arr, reg, sing, height, arrow_reg, arrow_sing}
 use Rattle.diagram_terms.specs.Dual.{dual}
 use Rattle.diagram_terms.specs.Composite.{comp}
@@ -19,7 +20,7 @@ pub record Rivals (d : ℕ) (S R T : Dia d) (a e : Arr d) (G : Leg d → Type 0)
   pub qe : DegeneracyByShape d R T e
   pub legs : (b : Leg d) → G b → ValidLeg d S b
   pub rival : (b : Leg d) → G b → Factors d b.source R (comp d a b.arrow) e
-  pub reduced : Reduced d S G
+  pub reduced : Reduced keep.Free d S G
 
 -- then a factors through e
 abbrev pub RivalsFactor : ℕ → Type 1

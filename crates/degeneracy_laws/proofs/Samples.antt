@@ -1,5 +1,6 @@
 -- The definitions at a small diagram: T is x -> x <- x over a label x, with identity legs.
 use Rattle.std.proofs.Common.{◌≡◌, ℕ, zero, suc, ◌<◌, ◌≤◌, List, [], ◌∷◌, refl, arith, inl}
+use Rattle.diagram_terms.specs.declared.place.Keep.TheVariants as keep
 use Rattle.diagram_terms.specs.declared.label.Label.{Label}
 use Rattle.diagram_terms.specs.Family.{Ends, Dia, Arr, reg, sing, fwd, bwd, arrow_reg}
 use Rattle.diagram_terms.specs.Dual.{dual}
@@ -119,14 +120,14 @@ module _ (x : Label) where
       missed_bwds (suc k) l e = absurd (omega arith)
 
   -- it is the least for no legs
-  reduced_S : ReducedFor 1 S []
+  reduced_S : ReducedFor keep.Free 1 S []
   reduced_S = record {
     regs = λ j l. tt;
     sings = λ k l. absurd (omega arith);
     hit = λ k l p q. absurd (omega arith);
   }
 
-  least_for_none : IsLeast 1 T [] S a
+  least_for_none : IsLeast keep.Free 1 T [] S a
   least_for_none = reduced_means_least 1 T S [] [] a (λ k l. absurd (omega arith))
       (shape_means_degeneracy 1 S T a valid_S valid_T shape_a)
       (record { count = refl; sources = λ k l. absurd (omega arith); factors = λ k l. absurd (omega arith) }) reduced_S
@@ -136,7 +137,7 @@ module _ (x : Label) where
   abbrev whole : List (Leg 1)
   whole = record { source = T; arrow = ident 1 T } ∷ []
 
-  reduced_T : ReducedFor 1 T whole
+  reduced_T : ReducedFor keep.Free 1 T whole
   reduced_T = record {
     regs = λ j l. tt;
     sings = λ k l. tt;
@@ -156,7 +157,7 @@ module _ (x : Label) where
   identity_valid : ValidArrow 1 T T (ident 1 T)
   identity_valid = identities_are_valid 1 T valid_T
 
-  least_for_itself : IsLeast 1 T whole T (ident 1 T)
+  least_for_itself : IsLeast keep.Free 1 T whole T (ident 1 T)
   least_for_itself = reduced_means_least 1 T T whole whole (ident 1 T) valid_legs (identities_are_degeneracies 1 T valid_T)
       (record { count = refl; sources = λ k l. refl; factors = factors }) reduced_T
     where

@@ -1,5 +1,6 @@
 -- The laws of degeneracies, factors and least degeneracies, each at one dimension.
 use Rattle.std.specs.Prelude.{◌≡◌, ℕ, List, suc}
+use Rattle.diagram_terms.specs.declared.place.Keep.TheVariants as keep
 use Rattle.diagram_terms.specs.Family.{Dia, Arr}
 use Rattle.diagram_terms.specs.Composite.{comp, ident}
 use Rattle.diagram_terms.specs.Valid.{ValidArrow, Valid}
@@ -53,14 +54,14 @@ DegeneraciesSplitOnce d = (X Y M N : Dia (suc d)) (e s p t q : Arr (suc d)) → 
 -- let valid legs into T factor by gs through a degeneracy a : S → T: if S is reduced for gs, then a is the least
 abbrev pub ReducedMeansLeast : ℕ → Type 0
 ReducedMeansLeast d = (T S : Dia d) (legs gs : List (Leg d)) (a : Arr d) → ValidLegs d T legs → Degeneracy d S T a
-    → LegsFactorBy d legs S a gs → ReducedFor d S gs → IsLeast d T legs S a
+    → LegsFactorBy d legs S a gs → ReducedFor keep.Free d S gs → IsLeast keep.Free d T legs S a
 
 -- two least degeneracies for the same legs have one source and are one arrow
 abbrev pub LeastIsUnique : ℕ → Type 0
-LeastIsUnique d = (T R S : Dia d) (legs : List (Leg d)) (a b : Arr d) → IsLeast d T legs R a → IsLeast d T legs S b
+LeastIsUnique d = (T R S : Dia d) (legs : List (Leg d)) (a b : Arr d) → IsLeast keep.Free d T legs R a → IsLeast keep.Free d T legs S b
     → (R ≡ S) × (a ≡ b)
 
 -- let the legs factor by gs through their least degeneracy a : S → T: the identity of S is the least one for gs
 abbrev pub LeastOfFactorsIsIdentity : ℕ → Type 0
-LeastOfFactorsIsIdentity d = (T S : Dia d) (legs gs : List (Leg d)) (a : Arr d) → IsLeast d T legs S a
-    → LegsFactorBy d legs S a gs → IsLeast d S gs S (ident d S)
+LeastOfFactorsIsIdentity d = (T S : Dia d) (legs gs : List (Leg d)) (a : Arr d) → IsLeast keep.Free d T legs S a
+    → LegsFactorBy d legs S a gs → IsLeast keep.Free d S gs S (ident d S)

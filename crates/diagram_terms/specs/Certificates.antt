@@ -1,6 +1,7 @@
 -- Reduced diagrams as a test, and certificates of least degeneracies.
 use Rattle.std.specs.Prelude.{ℕ, zero, suc, List, [], ◌∷◌, ◌++◌, length, Bool, true, not, ◌&&◌, ◌||◌, nat_lt}
 use Rattle.std.specs.List.{list_all}
+use Rattle.diagram_terms.specs.declared.place.Keep.TheVariants as keep
 use Rattle.diagram_terms.specs.Family.{Dia, Arr, reg, sing, fwd, bwd}
 use Rattle.diagram_terms.specs.Dual.{upto}
 use Rattle.diagram_terms.specs.Loose.{is_identity}
@@ -33,4 +34,4 @@ pub record IsCertificate (d : ℕ) (T : Dia d) (legs : List (Leg d)) (S : Dia d)
   pub source : Valid d S
   pub shape : DegeneracyByShape d S T a
   pub factors : LegsFactorBy d legs S a gs
-  pub reduced : ReducedFor d S gs
+  pub reduced : ReducedFor keep.Free d S gs

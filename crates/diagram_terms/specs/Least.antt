@@ -1,9 +1,12 @@
 -- Legs and their factors, reduced diagrams, and the least degeneracy.
 use Rattle.std.specs.Prelude.{◌≡◌, ◌⊎◌, ℕ, ◌<◌, ◌≤◌, List, length, get_or, zero, suc}
+use Rattle.diagram_terms.specs.declared.place.Keep.{Keep}
+use Rattle.diagram_terms.specs.declared.place.Keep.TheVariants as keep
 use Rattle.diagram_terms.specs.Family.{Dia, Arr, no_dia, no_arr, reg, sing, fwd, bwd, height, arrow_reg, arrow_sing}
 use Rattle.diagram_terms.specs.Dual.{dual}
 use Rattle.diagram_terms.specs.Composite.{comp}
 use Rattle.diagram_terms.specs.Identity.{IsIdentity}
+use Rattle.diagram_terms.specs.Plain.{PlainArrow}
 use Rattle.diagram_terms.specs.Valid.{ValidArrow, Valid}
 use Rattle.diagram_terms.specs.Degeneracy.{Degeneracy}
 
@@ -45,13 +48,23 @@ pub record LegsFactorBy (d : ℕ) (legs : List (Leg d)) (R : Dia d) (e : Arr d) 
   pub factors : (i : ℕ) → i < length legs
       → FactorsBy d (leg_at d legs i).source R (leg_at d legs i).arrow e (leg_at d gs i).arrow
 
--- a : S → T is the least degeneracy for the legs into T: a degeneracy through which all legs factor, and which factors
--- through every degeneracy e : R → T through which all legs factor
-pub record IsLeast (d : ℕ) (T : Dia d) (legs : List (Leg d)) (S : Dia d) (a : Arr d) : Type 0 where
-  pub valid : Valid d S
+-- a degeneracy that is plain
+pub record PlainDegeneracy (d : ℕ) (S T : Dia d) (a : Arr d) : Type 0 where
   pub degeneracy : Degeneracy d S T a
+  pub plain : PlainArrow d a
+
+-- the degeneracies that are allowed: every one, or the plain ones alone
+abbrev pub Allowed : Keep → (d : ℕ) → Dia d → Dia d → Arr d → Type 0
+Allowed keep.Free d S T a = Degeneracy d S T a
+Allowed keep.Plain d S T a = PlainDegeneracy d S T a
+
+-- a : S → T is the least degeneracy for the legs into T: an allowed one through which all legs factor, and which factors
+-- through every allowed degeneracy e : R → T through which all legs factor
+pub record IsLeast (kept : Keep) (d : ℕ) (T : Dia d) (legs : List (Leg d)) (S : Dia d) (a : Arr d) : Type 0 where
+  pub valid : Valid d S
+  pub degeneracy : Allowed kept d S T a
   pub legs_factor : LegsFactor d legs S a
-  pub factors : (R : Dia d) (e : Arr d) → Valid d R → Degeneracy d R T e → LegsFactor d legs R e → Factors d S R a e
+  pub factors : (R : Dia d) (e : Arr d) → Valid d R → Allowed kept d R T e → LegsFactor d legs R e → Factors d S R a e
 
 -- the slices of a leg g at a regular height j of its target, and at a height i of its source
 abbrev pub reg_leg : (d : ℕ) → Leg (suc d) → ℕ → Leg d
@@ -87,22 +100,27 @@ IsSliceOver d G k b = (h : Hits d G k) × (b ≡ sing_leg d h.g h.i)
 abbrev pub LeadsInto : (d : ℕ) → Dia (suc d) → (Leg (suc d) → Type 0) → ℕ → Leg d → Type 0
 LeadsInto d S G k b = IsSliceOver d G k b ⊎ ((b ≡ fwd_leg d S k) ⊎ (b ≡ bwd_leg d S k))
 
+-- what is asked where every degeneracy is allowed; where the regular slices are kept it is not
+abbrev pub WhereFree : Keep → Type 0 → Type 0
+WhereFree keep.Free A = A
+WhereFree keep.Plain A = Unit {0}
+
 -- one level of a reduced diagram S for the legs of which G speaks, where R says which slices are reduced for which legs
-pub record ReducedZig (d : ℕ) (R : Dia d → (Leg d → Type 0) → Type 0) (S : Dia (suc d)) (G : Leg (suc d) → Type 0) : Type 0 where
-  pub regs : (j : ℕ) → j ≤ length S.sings → R (reg d S j) (λ b. IsRegularSlice d G j b)
+pub record ReducedZig (kept : Keep) (d : ℕ) (R : Dia d → (Leg d → Type 0) → Type 0) (S : Dia (suc d)) (G : Leg (suc d) → Type 0) : Type 0 where
+  pub regs : WhereFree kept ((j : ℕ) → j ≤ length S.sings → R (reg d S j) (λ b. IsRegularSlice d G j b))
   pub sings : (k : ℕ) → k < length S.sings → R (sing d S k) (λ b. LeadsInto d S G k b)
   -- where both legs are identities
   pub hit : (k : ℕ) → k < length S.sings → IsIdentity d (fwd d S k) → IsIdentity d (bwd d S k) → Hits d G k
 
 -- S is reduced for the legs of which G speaks
-abbrev pub Reduced : (d : ℕ) → Dia d → (Leg d → Type 0) → Type 0
-Reduced zero S G = Unit {0}
-Reduced (suc d) S G = ReducedZig d (Reduced d) S G
+abbrev pub Reduced : Keep → (d : ℕ) → Dia d → (Leg d → Type 0) → Type 0
+Reduced kept zero S G = Unit {0}
+Reduced kept (suc d) S G = ReducedZig kept d (Reduced kept d) S G
 
 -- g is one of the legs of a list
 abbrev pub IsOneOf : (d : ℕ) → List (Leg d) → Leg d → Type 0
 IsOneOf d gs g = (i : ℕ) × (i < length gs) × (g ≡ leg_at d gs i)
 
 -- S is reduced for the legs gs into S
-abbrev pub ReducedFor : (d : ℕ) → Dia d → List (Leg d) → Type 0
-ReducedFor d S gs = Reduced d S (λ g. IsOneOf d gs g)
+abbrev pub ReducedFor : Keep → (d : ℕ) → Dia d → List (Leg d) → Type 0
+ReducedFor kept d S gs = Reduced kept d S (λ g. IsOneOf d gs g)

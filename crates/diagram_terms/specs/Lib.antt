@@ -28,7 +28,6 @@ pub mod Least
 pub mod Factors
 pub mod NormalForms
 pub mod Certificates
-pub mod PlainForms
 pub mod Constants
 pub mod LabelsOf
 pub mod SliceMaps

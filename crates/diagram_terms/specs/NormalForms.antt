@@ -1,6 +1,8 @@
 -- The normal form of a diagram relative to some legs into it, and the factors of the legs.
 use Rattle.std.specs.Prelude.{ℕ, zero, suc, List, [], ◌∷◌, ◌++◌, length, map, Bool, not, ◌&&◌, ◌||◌, nat_eq, nat_lt}
 use Rattle.std.specs.List.{filter, flat_map}
+use Rattle.diagram_terms.specs.declared.place.Keep.{Keep}
+use Rattle.diagram_terms.specs.declared.place.Keep.TheVariants as keep
 use Rattle.diagram_terms.specs.Family.{Dia, Arr, reg, sing, fwd, bwd, height}
 use Rattle.diagram_terms.specs.Dual.{upto, tab}
 use Rattle.diagram_terms.specs.Composite.{comp, ident}
@@ -82,13 +84,19 @@ parts_over d normal T legs regs =
 abbrev pub without_identities : (d : ℕ) → Dia (suc d) → List (Leg (suc d)) → Parts d → Leg (suc d)
 without_identities d T legs p = assembled d T p (kept_heights d T legs p)
 
+-- what stands for a regular slice S: its normal form N, or S itself where the regular slices are kept
+abbrev pub regular_form : Keep → (d : ℕ) → Dia d → Leg d → Leg d
+regular_form keep.Free d S N = N
+regular_form keep.Plain d S N = record { source = S; arrow = ident d S }
+
 -- The normal form of T relative to the legs, as a leg into T: first each regular slice relative to the regular slices of
 -- the legs, then each singular slice relative to what leads into it, and then the heights that are not kept are dropped.
-unfoldable pub normal_form : (d : ℕ) → Dia d → List (Leg d) → Leg d
-normal_form zero T legs = record { source = T; arrow = ident zero T }
-normal_form (suc d) T legs = without_identities d T legs
-    (parts_over d (normal_form d) T legs (tab (λ j. normal_form d (reg d T j) (regular_slices d legs j)) (suc (length T.sings))))
+unfoldable pub normal_form : Keep → (d : ℕ) → Dia d → List (Leg d) → Leg d
+normal_form kept zero T legs = record { source = T; arrow = ident zero T }
+normal_form kept (suc d) T legs = without_identities d T legs
+    (parts_over d (normal_form kept d) T legs
+    (tab (λ j. regular_form kept d (reg d T j) (normal_form kept d (reg d T j) (regular_slices d legs j))) (suc (length T.sings))))
 
 -- the normal form of T without legs, as a diagram
 abbrev pub normal_diagram : (d : ℕ) → Dia d → Dia d
-normal_diagram d T = (normal_form d T []).source
+normal_diagram d T = (normal_form keep.Free d T []).source

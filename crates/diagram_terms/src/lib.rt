@@ -25,7 +25,7 @@ pub use laws::{decoding_is_faithful, no_bad_place_is_validity, one_first_fault};
 pub use limits::{GREATEST_DIM, MAX_GENERATORS, MAX_NAME_LENGTH, NUMBER_LIMIT};
 pub use measure::dimension;
 pub use node::{Node, Sort};
-pub use place::{Bias, End, Fault, Height, Place, Side, Step, place_here, place_under};
+pub use place::{Bias, End, Fault, Height, Keep, Place, Side, Step, place_here, place_under};
 pub use sqlite_items::Items;
 pub use text::Text;
 pub use tree::{Arrow, Diagram};

@@ -26,6 +26,13 @@ pub enum Bias {
     Later,
 }
 
+/// Which degeneracies may be taken: every one, or the plain ones alone, which keep the regular slices as they are.
+#[derive(Clone, Copy, Debug, PartialEq, Eq)]
+pub enum Keep {
+    Free,
+    Plain,
+}
+
 /// One step into a diagram, an arrow or a map.
 #[derive(Clone, Copy, Debug, PartialEq, Eq)]
 pub enum Step {

@@ -2,6 +2,7 @@
 use Rattle.std.proofs.Common.{◌≡◌, ℕ, ◌<◌, List, length, sym, ap, ◌∙◌, subst, arith}
 use Rattle.std.specs.List.{Contains}
 use Rattle.std.proofs.lemmas.List.{get_or-map, length-map}
+use Rattle.diagram_terms.specs.declared.place.Keep.TheVariants as keep
 use Rattle.diagram_terms.specs.Family.{Dia, Arr, no_dia, no_arr}
 use Rattle.diagram_terms.specs.Plain.{Plain}
 use Rattle.diagram_terms.specs.Valid.{ValidArrow, Valid}
@@ -14,7 +15,6 @@ use Rattle.diagram_terms.specs.SliceMaps.{on_leg, on_legs}
 use Rattle.normal_form_laws.specs.Carried.{CarriesOver}
 use Rattle.diagram_terms.specs.Factors.{factor_legs}
 use Rattle.diagram_terms.specs.NormalForms.{normal_form}
-use Rattle.diagram_terms.specs.PlainForms.{PlainReducedFor, plain_normal_form}
 use Rattle.normal_form_laws.proofs.Existence.{are_valid, normal_forms_are_degeneracies, legs_factor_through_normal_forms, normal_forms_are_reduced, reduced_is_normal_form}
 use Rattle.normal_form_laws.proofs.ImageParts.{IsImageOf, KeepsAll}
 use Rattle.normal_form_laws.proofs.Members.{in_map, one_of, from_one_of}
@@ -46,11 +46,11 @@ module _ (d e : ℕ) (o : Dia d → Dia e) (a : Arr d → Arr e) (k : KeepsAll d
   image_member gs b x = one_of e (on_legs d e o a gs) b (subst (Contains (on_legs d e o a gs)) (sym x.2)
       (in_map (on_leg d e o a) gs x.0 (from_one_of d gs x.0 x.1)))
 
-  carried_reduced : (X : Dia d) (gs : List (Leg d)) → Valid d X → ValidLegs d X gs → ReducedFor d X gs → ReducedFor e (o X) (on_legs d e o a gs)
+  carried_reduced : (X : Dia d) (gs : List (Leg d)) → Valid d X → ValidLegs d X gs → ReducedFor keep.Free d X gs → ReducedFor keep.Free e (o X) (on_legs d e o a gs)
   carried_reduced X gs vX vl r = reduced_more e _ _ _ (image_member gs) (k.reduced X (λ g. IsOneOf d gs g) vX (are_valid d X gs vl) r)
 
-  carried_plain_reduced : (X : Dia d) (gs : List (Leg d)) → Valid d X → ValidLegs d X gs → PlainReducedFor d X gs
-      → PlainReducedFor e (o X) (on_legs d e o a gs)
+  carried_plain_reduced : (X : Dia d) (gs : List (Leg d)) → Valid d X → ValidLegs d X gs → ReducedFor keep.Plain d X gs
+      → ReducedFor keep.Plain e (o X) (on_legs d e o a gs)
   carried_plain_reduced X gs vX vl r =
       plain_reduced_more e _ _ _ (image_member gs) (k.plain_reduced X (λ g. IsOneOf d gs g) vX (are_valid d X gs vl) r)
 
@@ -77,9 +77,9 @@ module _ (d e : ℕ) (o : Dia d → Dia e) (a : Arr d → Arr e) (k : KeepsAll d
       }
 
   carried_normal_forms : (T : Dia d) (legs : List (Leg d)) → Valid d T → ValidLegs d T legs
-      → normal_form e (o T) (on_legs d e o a legs) ≡ on_leg d e o a (normal_form d T legs)
+      → normal_form keep.Free e (o T) (on_legs d e o a legs) ≡ on_leg d e o a (normal_form keep.Free d T legs)
   carried_normal_forms T legs vT vl =
-      let N : Leg d = normal_form d T legs in
+      let N : Leg d = normal_form keep.Free d T legs in
       let gs : List (Leg d) = factor_legs d N.arrow legs in
       let q = normal_forms_are_degeneracies d T legs vT vl in
       let f = legs_factor_through_normal_forms d T legs vT vl in
@@ -90,9 +90,9 @@ module _ (d e : ℕ) (o : Dia d → Dia e) (a : Arr d → Arr e) (k : KeepsAll d
       sym r.0
 
   carried_plain_forms : (T : Dia d) (legs : List (Leg d)) → Valid d T → Plain d T → ValidLegs d T legs
-      → plain_normal_form e (o T) (on_legs d e o a legs) ≡ on_leg d e o a (plain_normal_form d T legs)
+      → normal_form keep.Plain e (o T) (on_legs d e o a legs) ≡ on_leg d e o a (normal_form keep.Plain d T legs)
   carried_plain_forms T legs vT pT vl =
-      let N : Leg d = plain_normal_form d T legs in
+      let N : Leg d = normal_form keep.Plain d T legs in
       let gs : List (Leg d) = factor_legs d N.arrow legs in
       let q = plain_forms_are_degeneracies d T legs vT pT vl in
       let f = legs_factor_through_plain_forms d T legs vT pT vl in

@@ -2,6 +2,7 @@
 use Rattle.std.proofs.Common.{◌≡◌, ◌↔◌, ℕ, zero, suc, List, length, Bool, true, not, ◌&&◌, ◌||◌, nat_lt, refl, sym, subst, arith, inl, inr}
 use Rattle.std.specs.List.{list_all}
 use Rattle.std.proofs.lemmas.Bool.{cases_Bool, and_parts, and_from, lt-ltb, ltb-true}
+use Rattle.diagram_terms.specs.declared.place.Keep.TheVariants as keep
 use Rattle.diagram_terms.specs.Family.{Dia, reg, sing, fwd, bwd}
 use Rattle.diagram_terms.specs.Dual.{upto}
 use Rattle.diagram_terms.specs.Identity.{IsIdentity}
@@ -41,14 +42,14 @@ module _ (d : ℕ) (ih : ReducedIsDecided d) (S : Dia (suc d)) (gs : List (Leg (
   abbrev some : ℕ → Bool
   some k = nat_lt 0 (length (slices_over d gs k))
 
-  reg_decided : (j : ℕ) → (reg_test j ≡ true) ↔ Reduced d (reg d S j) (λ b. IsRegularSlice d G j b)
+  reg_decided : (j : ℕ) → (reg_test j ≡ true) ↔ Reduced keep.Free d (reg d S j) (λ b. IsRegularSlice d G j b)
   reg_decided j =
       let t = ih (reg d S j) (regular_slices d gs j) in (
         λ h. reduced_more d _ _ _ (from_regular_slices d gs j) (t.0 h),
         λ r. t.1 (reduced_more d _ _ _ (in_regular_slices d gs j) r),
       )
 
-  sing_decided : (k : ℕ) → (sing_test k ≡ true) ↔ Reduced d (sing d S k) (λ b. LeadsInto d S G k b)
+  sing_decided : (k : ℕ) → (sing_test k ≡ true) ↔ Reduced keep.Free d (sing d S k) (λ b. LeadsInto d S G k b)
   sing_decided k =
       let t = ih (sing d S k) (leads_into d S gs k) in (
         λ h. reduced_more d _ _ _ (from_leads d gs S k) (t.0 h),
@@ -71,7 +72,7 @@ module _ (d : ℕ) (ih : ReducedIsDecided d) (S : Dia (suc d)) (gs : List (Leg (
     | inr h ↦ subst (λ (t : Bool). (not t || some k) ≡ true) (sym h) refl
   ]
 
-  decided_step : (is_reduced (suc d) S gs ≡ true) ↔ ReducedFor (suc d) S gs
+  decided_step : (is_reduced (suc d) S gs ≡ true) ↔ ReducedFor keep.Free (suc d) S gs
   decided_step = (
     λ h. (let p = and_parts (list_all reg_test (upto (suc n)) && list_all sing_test (upto n)) (list_all (is_hit_if_flat d S gs) (upto n)) h in
         let q = and_parts (list_all reg_test (upto (suc n))) (list_all sing_test (upto n)) p.0 in
@@ -113,5 +114,5 @@ certificates_are_exact d T S legs gs a = (
 
 pub normal_forms_have_certificates : (d : ℕ) → NormalFormsHaveCertificates d
 normal_forms_have_certificates d T legs vT vl =
-    (certificates_are_exact d T (normal_form d T legs).source legs (factor_legs d (normal_form d T legs).arrow legs) (normal_form d T legs).arrow).1
+    (certificates_are_exact d T (normal_form keep.Free d T legs).source legs (factor_legs d (normal_form keep.Free d T legs).arrow legs) (normal_form keep.Free d T legs).arrow).1
     (vT, vl, normal_forms_are_least d T legs vT vl, legs_factor_through_normal_forms d T legs vT vl)

@@ -1,6 +1,7 @@
 -- The least degeneracy exists: it is the normal form, and the only one with a reduced source.
 use Rattle.std.proofs.Common.{◌≡◌, ℕ, ◌<◌, List, length, refl, sym, ap, ◌∙◌, subst, arith}
 use Rattle.std.proofs.lemmas.List.{get_or-map, length-map, ext_get_or}
+use Rattle.diagram_terms.specs.declared.place.Keep.TheVariants as keep
 use Rattle.diagram_terms.specs.Family.{Dia, Arr, no_dia, no_arr}
 use Rattle.diagram_terms.specs.Composite.{ident}
 use Rattle.diagram_terms.specs.Valid.{ValidArrow, Valid}
@@ -58,7 +59,7 @@ factors_are d T S legs gs a q f =
 
 module _ (d : ℕ) (T : Dia d) (legs : List (Leg d)) (vT : Valid d T) (vl : ValidLegs d T legs) where
   abbrev N : Leg d
-  N = normal_form d T legs
+  N = normal_form keep.Free d T legs
 
   holds : IsNormal d T legs N
   holds = normal_forms_hold d T legs vT (are_valid d T legs vl)
@@ -69,13 +70,13 @@ module _ (d : ℕ) (T : Dia d) (legs : List (Leg d)) (vT : Valid d T) (vl : Vali
   they_factor : LegsFactorBy d legs N.source N.arrow (factor_legs d N.arrow legs)
   they_factor = factors_of d T legs N holds.into
 
-  is_reduced : ReducedFor d N.source (factor_legs d N.arrow legs)
+  is_reduced : ReducedFor keep.Free d N.source (factor_legs d N.arrow legs)
   is_reduced = reduced_more d _ _ _
       (λ b p. one_of d (factor_legs d N.arrow legs) b (subst (Contains (factor_legs d N.arrow legs)) (sym p.2)
       (in_map (factor_leg d N.arrow) legs p.0 (from_one_of d legs p.0 p.1))))
       holds.reduced
 
-  is_least : IsLeast d T legs N.source N.arrow
+  is_least : IsLeast keep.Free d T legs N.source N.arrow
   is_least = reduced_means_least d T N.source legs (factor_legs d N.arrow legs) N.arrow vl is_degeneracy.1 they_factor is_reduced
 
 pub normal_forms_are_degeneracies : (d : ℕ) → NormalFormsAreDegeneracies d
@@ -91,22 +92,22 @@ pub normal_forms_are_least : (d : ℕ) → NormalFormsAreLeast d
 normal_forms_are_least d T legs vT vl = is_least d T legs vT vl
 
 pub least_exists : (d : ℕ) → LeastExists d
-least_exists d T legs vT vl = ((normal_form d T legs).source, (normal_form d T legs).arrow, is_least d T legs vT vl)
+least_exists d T legs vT vl = ((normal_form keep.Free d T legs).source, (normal_form keep.Free d T legs).arrow, is_least d T legs vT vl)
 
 -- ---- the only one
 
 pub least_is_normal_form : (d : ℕ) → LeastIsNormalForm d
 least_is_normal_form d T S legs a vl x =
     let vT = (degeneracy_ends d S T a x.degeneracy).1 in
-    let u = least_is_unique d T S (normal_form d T legs).source legs a (normal_form d T legs).arrow x (is_least d T legs vT vl) in
-    same_legs d (record { source = S; arrow = a }) (normal_form d T legs) u.0 u.1
+    let u = least_is_unique d T S (normal_form keep.Free d T legs).source legs a (normal_form keep.Free d T legs).arrow x (is_least d T legs vT vl) in
+    same_legs d (record { source = S; arrow = a }) (normal_form keep.Free d T legs) u.0 u.1
 
 pub least_is_reduced : (d : ℕ) → LeastIsReduced d
 least_is_reduced d T S legs gs a vl x f =
     let vT = (degeneracy_ends d S T a x.degeneracy).1 in
     let e = least_is_normal_form d T S legs a vl x in
     let g = factors_are d T S legs gs a (degeneracies_have_shape d S T a x.degeneracy) f in
-    subst (ReducedFor d S) (sym g) (subst (λ (t : Leg d). ReducedFor d t.source (factor_legs d t.arrow legs)) (sym e) (is_reduced d T legs vT vl))
+    subst (ReducedFor keep.Free d S) (sym g) (subst (λ (t : Leg d). ReducedFor keep.Free d t.source (factor_legs d t.arrow legs)) (sym e) (is_reduced d T legs vT vl))
 
 pub reduced_is_normal_form : (d : ℕ) → ReducedIsNormalForm d
 reduced_is_normal_form d T S legs gs a vl q f r = (
@@ -118,7 +119,7 @@ reduced_is_normal_form d T S legs gs a vl q f r = (
 
 pub normal_forms_are_normal : (d : ℕ) → NormalFormsAreNormal d
 normal_forms_are_normal d T legs vT vl =
-    let N : Leg d = normal_form d T legs in
+    let N : Leg d = normal_form keep.Free d T legs in
     let gs : List (Leg d) = factor_legs d N.arrow legs in
     let by = they_factor d T legs vT vl in
     let least = least_of_factors_is_identity d T N.source legs gs N.arrow (is_least d T legs vT vl) by in

@@ -1,6 +1,7 @@
 -- What a map of slices does one level up: its parts, and that it keeps composites and validity.
 use Rattle.std.proofs.Common.{◌≡◌, ℕ, suc, ◌<◌, ◌≤◌, length, sym, ap, ap₂, ◌∙◌, subst, arith}
 use Rattle.std.proofs.lemmas.List.{get_or-map, length-map}
+use Rattle.diagram_terms.specs.declared.place.Keep.TheVariants as keep
 use Rattle.diagram_terms.specs.Family.{Dia, Arr, no_dia, no_arr, reg, sing, fwd, bwd, height, arrow_reg, arrow_sing}
 use Rattle.diagram_terms.specs.Dual.{AreBelow, upto, dual}
 use Rattle.diagram_terms.specs.Composite.{comp, ident}
@@ -12,7 +13,6 @@ use Rattle.diagram_terms.specs.Least.{Leg, ValidLeg, Reduced}
 use Rattle.diagram_terms.proofs.Parts.{comp-heights, comp-regs_len, comp-sings_len, comp-reg, comp-sing, ident-heights, ident-regs_len, ident-sings_len, ident-reg, ident-sing, same_arrows}
 use Rattle.map_laws.proofs.ValidParts.{dual_within, height_within}
 use Rattle.diagram_terms.specs.SliceMaps.{on_slices, on_arrow_slices, on_leg}
-use Rattle.diagram_terms.specs.PlainForms.{PlainReduced}
 use Rattle.diagram_terms.proofs.Squares.{first_at, last_at, commutes_by}
 
 -- b is the image of a leg of which G speaks
@@ -30,10 +30,10 @@ pub record KeepsAll (d e : ℕ) (o : Dia d → Dia e) (a : Arr d → Arr e) : Ty
   pub plain_arrows : (f : Arr d) → PlainArrow d f → PlainArrow e (a f)
   pub plain_diagrams : (X : Dia d) → Plain d X → Plain e (o X)
   pub shapes : (X Y : Dia d) (f : Arr d) → Valid d X → Valid d Y → DegeneracyByShape d X Y f → DegeneracyByShape e (o X) (o Y) (a f)
-  pub reduced : (X : Dia d) (G : Leg d → Type 0) → Valid d X → ((g : Leg d) → G g → ValidLeg d X g) → Reduced d X G
-      → Reduced e (o X) (λ b. IsImageOf d e o a G b)
-  pub plain_reduced : (X : Dia d) (G : Leg d → Type 0) → Valid d X → ((g : Leg d) → G g → ValidLeg d X g) → PlainReduced d X G
-      → PlainReduced e (o X) (λ b. IsImageOf d e o a G b)
+  pub reduced : (X : Dia d) (G : Leg d → Type 0) → Valid d X → ((g : Leg d) → G g → ValidLeg d X g) → Reduced keep.Free d X G
+      → Reduced keep.Free e (o X) (λ b. IsImageOf d e o a G b)
+  pub plain_reduced : (X : Dia d) (G : Leg d → Type 0) → Valid d X → ((g : Leg d) → G g → ValidLeg d X g) → Reduced keep.Plain d X G
+      → Reduced keep.Plain e (o X) (λ b. IsImageOf d e o a G b)
 
 module _ (d e : ℕ) (o : Dia d → Dia e) (a : Arr d → Arr e) where
   abbrev O : Dia (suc d) → Dia (suc e)

@@ -1,6 +1,7 @@
 -- What a map of slices does one level up: it keeps identities, plainness, degeneracies and what is reduced.
 use Rattle.std.proofs.Common.{ℕ, suc, ◌<◌, ◌≤◌, length, refl, sym, ap, ◌∙◌, subst, arith, inl, inr}
 use Rattle.std.proofs.lemmas.List.{get_or-map, length-map}
+use Rattle.diagram_terms.specs.declared.place.Keep.TheVariants as keep
 use Rattle.diagram_terms.specs.Family.{Dia, Arr, no_dia, no_arr, reg, sing, fwd, bwd, height, arrow_reg, arrow_sing}
 use Rattle.diagram_terms.specs.Dual.{upto, dual}
 use Rattle.diagram_terms.specs.Composite.{comp}
@@ -11,7 +12,6 @@ use Rattle.diagram_terms.specs.Degeneracy.{DegeneracyByShape}
 use Rattle.diagram_terms.specs.Least.{Leg, ValidLeg, reg_leg, sing_leg, fwd_leg, bwd_leg, Hits, IsRegularSlice, LeadsInto, Reduced}
 use Rattle.map_laws.proofs.ValidParts.{dual_within, height_within}
 use Rattle.diagram_terms.specs.SliceMaps.{on_slices, on_arrow_slices, on_leg}
-use Rattle.diagram_terms.specs.PlainForms.{PlainReduced}
 use Rattle.normal_form_laws.proofs.ImageParts.{IsImageOf, KeepsAll, image-len, image-reg, image-sing, image-fwd, image-bwd, image-arrow_reg, image-arrow_sing, next_identities, next_composites, next_diagrams, along_target_fwd, along_target_bwd, next_arrows}
 use Rattle.normal_form_laws.proofs.PlainForms.{plain_reduced_more}
 use Rattle.normal_form_laws.proofs.ReducedParts.{same_legs, reduced_more}
@@ -167,18 +167,18 @@ module _ (d e : ℕ) (o : Dia d → Dia e) (a : Arr d → Arr e) (k : KeepsAll d
       k.only_identities _ _ (bwd d X i) (vX.bwds i l) (subst (IsIdentity e) (image-bwd d e o a X vX i l) b),
     )
 
-    next_reduced : Reduced (suc d) X G → Reduced (suc e) (O X) H
+    next_reduced : Reduced keep.Free (suc d) X G → Reduced keep.Free (suc e) (O X) H
     next_reduced r =
         let n = image-len d e o a X in
         record {
           regs = λ j l.
               let lj : j ≤ length X.sings = omega arith in
-              subst (λ (t : Dia e). Reduced e t (λ b. IsRegularSlice e H j b)) (sym (image-reg d e o a X vX j lj))
+              subst (λ (t : Dia e). Reduced keep.Free e t (λ b. IsRegularSlice e H j b)) (sym (image-reg d e o a X vX j lj))
               (reduced_more e _ _ _ (regular_images j lj)
               (k.reduced (reg d X j) (λ c. IsRegularSlice d G j c) (vX.regs j lj) (regular_slice_valid d X G vl j lj) (r.regs j lj)));
           sings = λ i l.
               let li : i < length X.sings = omega arith in
-              subst (λ (t : Dia e). Reduced e t (λ b. LeadsInto e (O X) H i b)) (sym (image-sing d e o a X i li))
+              subst (λ (t : Dia e). Reduced keep.Free e t (λ b. LeadsInto e (O X) H i b)) (sym (image-sing d e o a X i li))
               (reduced_more e _ _ _ (leading_images i li)
               (k.reduced (sing d X i) (λ c. LeadsInto d X G i c) (vX.sings i li) (leads_into_valid d X G vl vX i li) (r.sings i li)));
           hit = λ i l f b.
@@ -187,13 +187,14 @@ module _ (d e : ℕ) (o : Dia d → Dia e) (a : Arr d → Arr e) (k : KeepsAll d
               hit_images i (r.hit i li z.0 z.1);
         }
 
-    next_plain_reduced : PlainReduced (suc d) X G → PlainReduced (suc e) (O X) H
+    next_plain_reduced : Reduced keep.Plain (suc d) X G → Reduced keep.Plain (suc e) (O X) H
     next_plain_reduced r =
         let n = image-len d e o a X in
         record {
+          regs = tt;
           sings = λ i l.
               let li : i < length X.sings = omega arith in
-              subst (λ (t : Dia e). PlainReduced e t (λ b. LeadsInto e (O X) H i b)) (sym (image-sing d e o a X i li))
+              subst (λ (t : Dia e). Reduced keep.Plain e t (λ b. LeadsInto e (O X) H i b)) (sym (image-sing d e o a X i li))
               (plain_reduced_more e _ _ _ (leading_images i li)
               (k.plain_reduced (sing d X i) (λ c. LeadsInto d X G i c) (vX.sings i li) (leads_into_valid d X G vl vX i li) (r.sings i li)));
           hit = λ i l f b.

@@ -1,6 +1,7 @@
 -- Both ends of a degeneracy have the same labels.
 use Rattle.std.proofs.Common.{◌≡◌, ◌↔◌, ℕ, zero, suc, ◌<◌, [], length, refl, sym, ap, ◌∙◌, subst, arith, inl, inr}
 use Rattle.std.proofs.lemmas.Bool.{cases_lt}
+use Rattle.diagram_terms.specs.declared.place.Keep.TheVariants as keep
 use Rattle.diagram_terms.specs.declared.label.Label.{Label}
 use Rattle.diagram_terms.specs.Family.{Dia, Arr, reg, sing, fwd, height, arrow_reg, arrow_sing}
 use Rattle.diagram_terms.specs.Dual.{dual}
@@ -81,14 +82,14 @@ pub degeneracies_keep_labels : (d : ℕ) → DegeneraciesKeepLabels d
 degeneracies_keep_labels d S T e q x = shapes_keep_labels d S T e (degeneracies_have_shape d S T e q) x
 
 pub normal_forms_keep_labels : (d : ℕ) → NormalFormsKeepLabels d
-normal_forms_keep_labels d T vT x = degeneracies_keep_labels d (normal_form d T []).source T (normal_form d T []).arrow
+normal_forms_keep_labels d T vT x = degeneracies_keep_labels d (normal_form keep.Free d T []).source T (normal_form keep.Free d T []).arrow
     (normal_forms_are_degeneracies d T [] vT (no_legs d T)).1 x
 
 -- ---- a new label keeps its height
 
 pub new_labels_stay : (d : ℕ) → NewLabelsStay d
 new_labels_stay d T x vT one has new =
-    let N : Leg (suc d) = normal_form (suc d) T [] in
+    let N : Leg (suc d) = normal_form keep.Free (suc d) T [] in
     let S : Dia (suc d) = N.source in
     let e : Arr (suc d) = N.arrow in
     let q = degeneracies_have_shape (suc d) S T e (normal_forms_are_degeneracies (suc d) T [] vT (no_legs (suc d) T)).1 in

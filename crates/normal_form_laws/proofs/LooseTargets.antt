@@ -2,6 +2,7 @@
 -- is Id Id x -> Id U <- Id Id x over U = x -> x <- x, and both its legs leave out the height of U.
 use Rattle.std.proofs.Common.{◌≡◌, ℕ, zero, suc, ◌<◌, ◌≤◌, [], ◌∷◌, false, refl, sym, ◌∙◌, subst, arith, inl}
 use Rattle.std.proofs.lemmas.Bool.{true≢false}
+use Rattle.diagram_terms.specs.declared.place.Keep.TheVariants as keep
 use Rattle.diagram_terms.specs.declared.label.Label.{Label}
 use Rattle.diagram_terms.specs.Family.{Ends, Dia, Arr, no_arr, reg, sing, fwd, bwd, arrow_reg}
 use Rattle.diagram_terms.specs.Dual.{dual}
@@ -10,7 +11,7 @@ use Rattle.diagram_terms.specs.Identity.{IsIdentity}
 use Rattle.diagram_terms.specs.Plain.{PlainArrow}
 use Rattle.diagram_terms.specs.Valid.{ValidArrow, Valid, Commutes}
 use Rattle.diagram_terms.specs.Degeneracy.{DegeneracyByShape}
-use Rattle.diagram_terms.specs.Least.{Factors, LeadsInto, IsOneOf}
+use Rattle.diagram_terms.specs.Least.{Factors, LeadsInto, IsOneOf, Reduced, ReducedFor, IsLeast}
 use Rattle.diagram_terms.proofs.Duals.{dual-nil}
 use Rattle.diagram_terms.proofs.Injections.{increasing-nil, increasing_mono}
 use Rattle.map_laws.proofs.IdentityShapes.{identities_have_shape}
@@ -20,7 +21,6 @@ use Rattle.degeneracy_laws.proofs.ShapeComposites.{shape_valid, identity_shape}
 use Rattle.degeneracy_laws.proofs.Splits.{shape_means_degeneracy}
 use Rattle.diagram_terms.specs.Constants.{Constant}
 use Rattle.diagram_terms.specs.Factors.{has_factor}
-use Rattle.diagram_terms.specs.PlainForms.{PlainReduced, PlainReducedFor, IsPlainLeast}
 use Rattle.normal_form_laws.specs.PlainLaws.{PlainTargetsAreNeeded}
 use Rattle.normal_form_laws.proofs.ConstantForms.{into, into_shape, tower_valid}
 use Rattle.normal_form_laws.proofs.DecidedFactors.{factors_are_decided}
@@ -148,11 +148,11 @@ no_identity : (k : ℕ) → k < 1 → IsIdentity 2 (fwd 2 T k) → ⊥
 no_identity zero l j = absurd (let a = (j.regs 0 (omega arith)).regs_len in omega arith)
 no_identity (suc k) l j = absurd (omega arith)
 
-reduced_T : PlainReducedFor 3 T []
-reduced_T = record { sings = sings; hit = λ k l f b. absurd (no_identity k l f) }
+reduced_T : ReducedFor keep.Plain 3 T []
+reduced_T = record { regs = tt; sings = sings; hit = λ k l f b. absurd (no_identity k l f) }
   where
-    sings : (k : ℕ) → k < 1 → PlainReduced 2 (sing 2 T k) (λ b. LeadsInto 2 T (λ g. IsOneOf 3 [] g) k b)
-    sings zero l = record { sings = λ m n. absurd (omega arith); hit = λ m n f b. absurd (omega arith) }
+    sings : (k : ℕ) → k < 1 → Reduced keep.Plain 2 (sing 2 T k) (λ b. LeadsInto 2 T (λ g. IsOneOf 3 [] g) k b)
+    sings zero l = record { regs = tt; sings = λ m n. absurd (omega arith); hit = λ m n f b. absurd (omega arith) }
     sings (suc k) l = absurd (omega arith)
 
 -- ---- the rival, which leaves out the height of T
@@ -233,7 +233,7 @@ no_factor : has_factor 3 e (ident 3 T) ≡ false
 unfolding has_factor ident dual no_arr
 no_factor = refl
 
-not_least : IsPlainLeast 3 T [] T (ident 3 T) → ⊥
+not_least : IsLeast keep.Plain 3 T [] T (ident 3 T) → ⊥
 not_least h =
     let q = shape_means_degeneracy 3 R T e valid_R valid_T shape_e in
     let x : Factors 3 T R (ident 3 T) e = h.factors R e valid_R (record { degeneracy = q; plain = plain_e }) (λ m l. absurd (omega arith)) in

@@ -1,5 +1,6 @@
 -- Normal forms without legs: degeneracies and identity diagrams keep them.
 use Rattle.std.proofs.Common.{ℕ, [], refl, sym, ap, arith}
+use Rattle.diagram_terms.specs.declared.place.Keep.TheVariants as keep
 use Rattle.diagram_terms.specs.Family.{Dia, Arr}
 use Rattle.diagram_terms.specs.Composite.{comp}
 use Rattle.diagram_terms.specs.Least.{Leg, ValidLegs, LegsFactorBy}
@@ -18,7 +19,7 @@ none_factor d S a = record { count = refl; sources = λ i l. absurd (omega arith
 pub degeneracies_keep_normal_forms : (d : ℕ) → DegeneraciesKeepNormalForms d
 degeneracies_keep_normal_forms d S T e q =
     let vS = (degeneracy_ends d S T e q).0 in
-    let N : Leg d = normal_form d S [] in
+    let N : Leg d = normal_form keep.Free d S [] in
     let n = normal_forms_are_degeneracies d S [] vS (no_legs d S) in
     let r = reduced_is_normal_form d T N.source [] [] (comp d e N.arrow) (no_legs d T)
     (degeneracies_compose d N.source S T N.arrow e n.1 q) (none_factor d N.source (comp d e N.arrow))
@@ -30,8 +31,8 @@ reduced_sources_are_normal d S T a q r =
     ap (λ (g : Leg d). g.source) (sym (reduced_is_normal_form d T S [] [] a (no_legs d T) q (none_factor d S a) r).0)
 
 pub normal_diagrams_are_normal : (d : ℕ) → NormalDiagramsAreNormal d
-normal_diagrams_are_normal d T vT = sym (ap (λ (g : Leg d). g.source) (degeneracies_keep_normal_forms d (normal_form d T []).source T
-    (normal_form d T []).arrow (normal_forms_are_degeneracies d T [] vT (no_legs d T)).1))
+normal_diagrams_are_normal d T vT = sym (ap (λ (g : Leg d). g.source) (degeneracies_keep_normal_forms d (normal_form keep.Free d T []).source T
+    (normal_form keep.Free d T []).arrow (normal_forms_are_degeneracies d T [] vT (no_legs d T)).1))
 
 pub identity_diagrams_keep_normal_forms : (d : ℕ) → IdentityDiagramsKeepNormalForms d
 unfolding normal_form

@@ -1,17 +1,17 @@
 -- The least plain degeneracy exists: it is the plain normal form, and the only one with a reduced source.
 use Rattle.std.proofs.Common.{ℕ, ◌<◌, List, length, refl, sym, ◌∙◌, subst, arith}
 use Rattle.std.specs.List.{Contains}
+use Rattle.diagram_terms.specs.declared.place.Keep.TheVariants as keep
 use Rattle.diagram_terms.specs.Family.{Dia, Arr}
 use Rattle.diagram_terms.specs.Composite.{ident, comp}
 use Rattle.diagram_terms.specs.Plain.{Plain}
 use Rattle.diagram_terms.specs.Valid.{ValidArrow, Valid}
-use Rattle.diagram_terms.specs.Least.{Leg, leg_at, ValidLeg, ValidLegs, Factors, LegsFactor, LegsFactorBy, IsOneOf}
+use Rattle.diagram_terms.specs.Least.{Leg, leg_at, ValidLeg, ValidLegs, Factors, LegsFactor, LegsFactorBy, IsOneOf, PlainDegeneracy, IsLeast, ReducedFor}
 use Rattle.degeneracy_laws.proofs.Factors.{mutual_factors}
 use Rattle.degeneracy_laws.proofs.Shapes.{degeneracy_ends, degeneracies_have_shape}
 use Rattle.degeneracy_laws.proofs.Splits.{shape_means_degeneracy}
 use Rattle.map_laws.proofs.Neutral.{neutral_after}
 use Rattle.diagram_terms.specs.Factors.{factor_leg, factor_legs}
-use Rattle.diagram_terms.specs.PlainForms.{PlainDegeneracy, IsPlainLeast, PlainReducedFor, plain_normal_form}
 use Rattle.normal_form_laws.specs.PlainLaws.{PlainReducedMeansLeast, PlainLeastIsUnique, PlainLeastOfFactorsIsIdentity, PlainFormsAreDegeneracies, LegsFactorThroughPlainForms, PlainFormsAreReduced, PlainFormsAreLeast, PlainLeastExists, PlainLeastIsPlainForm, PlainLeastIsReduced, PlainReducedIsPlainForm}
 use Rattle.normal_form_laws.proofs.Existence.{are_valid, factors_of, factors_are}
 use Rattle.normal_form_laws.proofs.Members.{in_map, one_of, from_one_of}
@@ -19,6 +19,7 @@ use Rattle.normal_form_laws.proofs.PlainFactors.{plain_rivals_factor}
 use Rattle.normal_form_laws.proofs.PlainForms.{IsPlainNormal, plain_reduced_more, plain_forms_hold}
 use Rattle.normal_form_laws.proofs.PlainShapes.{identities_are_plain_degeneracies, plain_sources_are_plain}
 use Rattle.normal_form_laws.proofs.ReducedParts.{same_legs}
+use Rattle.diagram_terms.specs.NormalForms.{normal_form}
 
 -- ---- a reduced source
 
@@ -79,7 +80,7 @@ plain_least_is_unique d T R S legs a b x y =
 
 module _ (d : ℕ) (T : Dia d) (legs : List (Leg d)) (vT : Valid d T) (pT : Plain d T) (vl : ValidLegs d T legs) where
   abbrev N : Leg d
-  N = plain_normal_form d T legs
+  N = normal_form keep.Plain d T legs
 
   holds : IsPlainNormal d T legs N
   holds = plain_forms_hold d T legs vT pT (are_valid d T legs vl)
@@ -93,19 +94,19 @@ module _ (d : ℕ) (T : Dia d) (legs : List (Leg d)) (vT : Valid d T) (pT : Plai
   they_factor : LegsFactorBy d legs N.source N.arrow (factor_legs d N.arrow legs)
   they_factor = factors_of d T legs N holds.into
 
-  is_reduced : PlainReducedFor d N.source (factor_legs d N.arrow legs)
+  is_reduced : ReducedFor keep.Plain d N.source (factor_legs d N.arrow legs)
   is_reduced = plain_reduced_more d _ _ _
       (λ b p. one_of d (factor_legs d N.arrow legs) b (subst (Contains (factor_legs d N.arrow legs)) (sym p.2)
       (in_map (factor_leg d N.arrow) legs p.0 (from_one_of d legs p.0 p.1))))
       holds.reduced
 
-  is_least : IsPlainLeast d T legs N.source N.arrow
+  is_least : IsLeast keep.Plain d T legs N.source N.arrow
   is_least = plain_reduced_means_least d T N.source legs (factor_legs d N.arrow legs) N.arrow pT vl is_degeneracy they_factor is_reduced
 
 pub plain_forms_are_degeneracies : (d : ℕ) → PlainFormsAreDegeneracies d
 plain_forms_are_degeneracies d T legs vT pT vl =
     let q = is_degeneracy d T legs vT pT vl in
-    ((holds d T legs vT pT vl).into.valid, plain_sources_are_plain d (plain_normal_form d T legs).source T (plain_normal_form d T legs).arrow q pT, q)
+    ((holds d T legs vT pT vl).into.valid, plain_sources_are_plain d (normal_form keep.Plain d T legs).source T (normal_form keep.Plain d T legs).arrow q pT, q)
 
 pub legs_factor_through_plain_forms : (d : ℕ) → LegsFactorThroughPlainForms d
 legs_factor_through_plain_forms d T legs vT pT vl = they_factor d T legs vT pT vl
@@ -117,23 +118,23 @@ pub plain_forms_are_least : (d : ℕ) → PlainFormsAreLeast d
 plain_forms_are_least d T legs vT pT vl = is_least d T legs vT pT vl
 
 pub plain_least_exists : (d : ℕ) → PlainLeastExists d
-plain_least_exists d T legs vT pT vl = ((plain_normal_form d T legs).source, (plain_normal_form d T legs).arrow, is_least d T legs vT pT vl)
+plain_least_exists d T legs vT pT vl = ((normal_form keep.Plain d T legs).source, (normal_form keep.Plain d T legs).arrow, is_least d T legs vT pT vl)
 
 -- ---- the only one
 
 pub plain_least_is_plain_form : (d : ℕ) → PlainLeastIsPlainForm d
 plain_least_is_plain_form d T S legs a pT vl x =
     let vT = (degeneracy_ends d S T a x.degeneracy.degeneracy).1 in
-    let u = plain_least_is_unique d T S (plain_normal_form d T legs).source legs a (plain_normal_form d T legs).arrow x (is_least d T legs vT pT vl) in
-    same_legs d (record { source = S; arrow = a }) (plain_normal_form d T legs) u.0 u.1
+    let u = plain_least_is_unique d T S (normal_form keep.Plain d T legs).source legs a (normal_form keep.Plain d T legs).arrow x (is_least d T legs vT pT vl) in
+    same_legs d (record { source = S; arrow = a }) (normal_form keep.Plain d T legs) u.0 u.1
 
 pub plain_least_is_reduced : (d : ℕ) → PlainLeastIsReduced d
 plain_least_is_reduced d T S legs gs a pT vl x f =
     let vT = (degeneracy_ends d S T a x.degeneracy.degeneracy).1 in
     let e = plain_least_is_plain_form d T S legs a pT vl x in
     let g = factors_are d T S legs gs a (degeneracies_have_shape d S T a x.degeneracy.degeneracy) f in
-    subst (PlainReducedFor d S) (sym g)
-    (subst (λ (t : Leg d). PlainReducedFor d t.source (factor_legs d t.arrow legs)) (sym e) (is_reduced d T legs vT pT vl))
+    subst (ReducedFor keep.Plain d S) (sym g)
+    (subst (λ (t : Leg d). ReducedFor keep.Plain d t.source (factor_legs d t.arrow legs)) (sym e) (is_reduced d T legs vT pT vl))
 
 pub plain_reduced_is_plain_form : (d : ℕ) → PlainReducedIsPlainForm d
 plain_reduced_is_plain_form d T S legs gs a pT vl q f r = (

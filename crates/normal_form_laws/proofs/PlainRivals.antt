@@ -3,6 +3,7 @@
 -- goes. Else the slice of S between two equal neighbours is the same with identity legs, and no leg hits it.
 use Rattle.std.proofs.Common.{◌≡◌, ℕ, suc, ◌<◌, length, sym, ap, ◌∙◌, subst, arith, inl, inr}
 use Rattle.std.proofs.lemmas.Bool.{cases_lt}
+use Rattle.diagram_terms.specs.declared.place.Keep.TheVariants as keep
 use Rattle.diagram_terms.specs.Family.{Dia, Arr, reg, sing, fwd, bwd, height, arrow_sing}
 use Rattle.diagram_terms.specs.Dual.{dual}
 use Rattle.diagram_terms.specs.Composite.{comp, ident}
@@ -10,7 +11,7 @@ use Rattle.diagram_terms.specs.Identity.{IsIdentity}
 use Rattle.diagram_terms.specs.Plain.{PlainArrow, Plain}
 use Rattle.diagram_terms.specs.Valid.{ValidArrow, Valid}
 use Rattle.diagram_terms.specs.Degeneracy.{DegeneracyByShape}
-use Rattle.diagram_terms.specs.Least.{Leg, ValidLeg, Factors, Hits, LeadsInto}
+use Rattle.diagram_terms.specs.Least.{Leg, ValidLeg, Factors, Hits, LeadsInto, Reduced}
 use Rattle.diagram_terms.proofs.Duals.{dual_mono, fibre_low, fibre_high}
 use Rattle.diagram_terms.proofs.Parts.{comp-height}
 use Rattle.map_laws.proofs.Associativity.{associative}
@@ -21,7 +22,6 @@ use Rattle.map_laws.proofs.ValidIdentities.{identities_are_valid}
 use Rattle.map_laws.proofs.ValidParts.{height_within}
 use Rattle.degeneracy_laws.proofs.Cancellation.{shapes_are_mono}
 use Rattle.degeneracy_laws.proofs.ShapeComposites.{shape_valid}
-use Rattle.diagram_terms.specs.PlainForms.{PlainReduced}
 use Rattle.normal_form_laws.proofs.ValidSlices.{leads_into_valid}
 use Rattle.normal_form_laws.proofs.PlainShapes.{fixed, fwd_fixed, bwd_fixed, over, left_fixed, right_fixed, over_fwd, over_bwd}
 
@@ -36,7 +36,7 @@ pub record PlainRivals (d : ℕ) (S R T : Dia d) (a e : Arr d) (G : Leg d → Ty
   pub pe : PlainArrow d e
   pub legs : (b : Leg d) → G b → ValidLeg d S b
   pub rival : (b : Leg d) → G b → Factors d b.source R (comp d a b.arrow) e
-  pub reduced : PlainReduced d S G
+  pub reduced : Reduced keep.Plain d S G
 
 abbrev pub PlainRivalsFactor : ℕ → Type 1
 PlainRivalsFactor d = (S R T : Dia d) (a e : Arr d) (G : Leg d → Type 0) → PlainRivals d S R T a e G → Factors d S R a e

@@ -1,6 +1,7 @@
 -- The factors of the slices of the legs are the slices of the factors of the legs, so the assembled diagram is reduced
 -- where its parts are.
 use Rattle.std.proofs.Common.{◌≡◌, ℕ, zero, suc, ◌<◌, ◌≤◌, ◌⊎◌, List, length, get_or, refl, sym, ap, ◌∙◌, subst, arith, inl, inr}
+use Rattle.diagram_terms.specs.declared.place.Keep.TheVariants as keep
 use Rattle.diagram_terms.specs.Family.{Dia, Arr, reg, height, arrow_reg, arrow_sing}
 use Rattle.diagram_terms.specs.Dual.{dual}
 use Rattle.diagram_terms.specs.Identity.{IsIdentity}
@@ -19,7 +20,7 @@ same_legs d x y p q = λ i. record { source = p i; arrow = q i }
 -- ---- what is reduced for some legs is so for more
 
 abbrev ReducedForMore : ℕ → Type 1
-ReducedForMore d = (S : Dia d) (G H : Leg d → Type 0) → ((g : Leg d) → G g → H g) → Reduced d S G → Reduced d S H
+ReducedForMore d = (S : Dia d) (G H : Leg d → Type 0) → ((g : Leg d) → G g → H g) → Reduced keep.Free d S G → Reduced keep.Free d S H
 
 pub hits_more : (d : ℕ) (G H : Leg (suc d) → Type 0) (k : ℕ) → ((g : Leg (suc d)) → G g → H g) → Hits d G k → Hits d H k
 hits_more d G H k more h = record { g = h.g; is_leg = more h.g h.is_leg; i = h.i; within = h.within; goes = h.goes }
@@ -138,22 +139,22 @@ module _ (d : ℕ) (T : Dia (suc d)) (G : Leg (suc d) → Type 0) (p : Parts d) 
   -- ---- all of it
 
   pub assembled_reduced
-      : ((k : ℕ) → k ≤ n → Reduced d (reg_part d p k).source (λ b. IsFactorOf d (reg_part d p k).arrow (λ c. IsRegularSlice d G k c) b))
-      → ((k : ℕ) → k < n → Reduced d (sing_part d p k).source (λ b. IsFactorOf d (sing_part d p k).arrow (Leads k) b))
+      : ((k : ℕ) → k ≤ n → Reduced keep.Free d (reg_part d p k).source (λ b. IsFactorOf d (reg_part d p k).arrow (λ c. IsRegularSlice d G k c) b))
+      → ((k : ℕ) → k < n → Reduced keep.Free d (sing_part d p k).source (λ b. IsFactorOf d (sing_part d p k).arrow (Leads k) b))
       → ((i : ℕ) → i < length kept → IsIdentity d (fwd_between d T p (get_or kept i 0)) → IsIdentity d (bwd_between d T p (get_or kept i 0))
       → Hits d G (get_or kept i 0))
-      → Reduced (suc d) N F
+      → Reduced keep.Free (suc d) N F
   assembled_reduced regs sings hit =
       let m = assembled-sings_len d T p kept in
       record {
         regs = λ j l.
             let lj : j ≤ length kept = omega arith in
             let k : ℕ = stand kept n j in
-            subst (λ (t : Dia d). Reduced d t (λ b. IsRegularSlice d F j b)) (sym (assembled-reg d T p kept j lj))
+            subst (λ (t : Dia d). Reduced keep.Free d t (λ b. IsRegularSlice d F j b)) (sym (assembled-reg d T p kept j lj))
             (reduced_more d _ _ _ (regular_included j lj) (regs k (stand_within kept n r.increasing r.below j)));
         sings = λ i l.
             let li : i < length kept = omega arith in
-            subst (λ (t : Dia d). Reduced d t (λ b. LeadsInto d N F i b)) (sym (assembled-sing d T p kept i li))
+            subst (λ (t : Dia d). Reduced keep.Free d t (λ b. LeadsInto d N F i b)) (sym (assembled-sing d T p kept i li))
             (reduced_more d _ _ _ (singular_included i li) (sings (get_or kept i 0) (kept_within d T G p kept r i li)));
         hit = λ i l f b.
             let li : i < length kept = omega arith in

@@ -1,5 +1,6 @@
 -- The normal forms of small diagrams, by computation.
 use Rattle.std.proofs.Common.{◌≡◌, ℕ, [], ◌∷◌, ◌+◌, false, refl}
+use Rattle.diagram_terms.specs.declared.place.Keep.TheVariants as keep
 use Rattle.diagram_terms.specs.declared.label.Label.{Label}
 use Rattle.diagram_terms.specs.Family.{Ends, Dia, Arr, no_dia, no_arr}
 use Rattle.diagram_terms.specs.Dual.{dual, after}
@@ -11,7 +12,6 @@ use Rattle.diagram_terms.specs.Suspension.{suspended, suspended_arrow}
 use Rattle.diagram_terms.specs.SliceMaps.{on_leg}
 use Rattle.diagram_terms.specs.Factors.{factor_through, has_factor, factor_legs}
 use Rattle.diagram_terms.specs.NormalForms.{normal_form, normal_diagram}
-use Rattle.diagram_terms.specs.PlainForms.{plain_normal_form}
 
 abbrev x : Label
 x = record { number = 0; dim = 0 }
@@ -46,7 +46,7 @@ abbrev past : Label → Arr 1
 past y = record { heights = 1 ∷ []; regs = pair x x ∷ pair x x ∷ pair x x ∷ []; sings = pair y y ∷ [] }
 
 -- without legs the identity cospan is dropped
-padding_goes : normal_form 1 (padded f) [] ≡ leg 1 (loop f) (past f)
+padding_goes : normal_form keep.Free 1 (padded f) [] ≡ leg 1 (loop f) (past f)
 unfolding normal_form factor_through ident comp dual after no_dia no_arr
 padding_goes = refl
 
@@ -55,7 +55,7 @@ abbrev onto_first : Leg 1
 onto_first = leg 1 (loop x) (record { heights = 0 ∷ []; regs = pair x x ∷ pair x x ∷ pair x x ∷ []; sings = pair x x ∷ [] })
 
 -- relative to it the cospan stays, and the leg is its own factor
-padding_stays : normal_form 1 (padded f) (onto_first ∷ []) ≡ leg 1 (padded f) (ident 1 (padded f))
+padding_stays : normal_form keep.Free 1 (padded f) (onto_first ∷ []) ≡ leg 1 (padded f) (ident 1 (padded f))
 unfolding normal_form factor_through ident comp dual after no_dia no_arr
 padding_stays = refl
 
@@ -73,8 +73,8 @@ unfolding factor_through ident dual no_arr
 own_factor = refl
 
 -- a plain normal form leaves labels alone, so the cospan is dropped there too
-plain_padding_goes : plain_normal_form 1 (padded f) [] ≡ leg 1 (loop f) (past f)
-unfolding plain_normal_form factor_through ident comp dual after no_dia no_arr
+plain_padding_goes : normal_form keep.Plain 1 (padded f) [] ≡ leg 1 (loop f) (past f)
+unfolding normal_form factor_through ident comp dual after no_dia no_arr
 plain_padding_goes = refl
 
 -- ---- dimension 2
@@ -87,7 +87,7 @@ abbrev square : Dia 2
 square = record { regs = padded f ∷ padded f ∷ []; sings = padded a ∷ []; fwds = both ∷ []; bwds = both ∷ [] }
 
 -- without legs all padding goes, and the type of a stays
-padding_goes_inside : normal_form 2 square [] ≡ leg 2 (type_over 1 (loop f) (loop f) a) (record {
+padding_goes_inside : normal_form keep.Free 2 square [] ≡ leg 2 (type_over 1 (loop f) (loop f) a) (record {
   heights = 0 ∷ [];
   regs = past f ∷ past f ∷ [];
   sings = past a ∷ [];
@@ -96,8 +96,8 @@ unfolding normal_form factor_through ident comp dual after no_dia no_arr type_ov
 padding_goes_inside = refl
 
 -- where the regular slices stay, their legs hit all heights, and nothing is dropped
-plain_padding_stays : plain_normal_form 2 square [] ≡ leg 2 square (ident 2 square)
-unfolding plain_normal_form factor_through ident comp dual after no_dia no_arr
+plain_padding_stays : normal_form keep.Plain 2 square [] ≡ leg 2 square (ident 2 square)
+unfolding normal_form factor_through ident comp dual after no_dia no_arr
 plain_padding_stays = refl
 
 -- (x -> f <- x) -> (f -> f <- f) <- Id x, over the height 0 and over none. The singular slice alone would become Id f.
@@ -117,7 +117,7 @@ alone : normal_diagram 1 onto_loop ≡ identity_diagram 0 f
 unfolding normal_form factor_through ident comp dual after no_dia no_arr
 alone = refl
 
-in_its_place : normal_form 2 neighbours [] ≡ leg 2 neighbours (ident 2 neighbours)
+in_its_place : normal_form keep.Free 2 neighbours [] ≡ leg 2 neighbours (ident 2 neighbours)
 unfolding normal_form factor_through ident comp dual after no_dia no_arr
 in_its_place = refl
 
@@ -153,8 +153,8 @@ loose = record { regs = inner ∷ inner ∷ []; sings = outer ∷ []; fwds = c �
 
 -- the plain normal form of it is the whole, though the arrow out of Id Id Id x with identity slices is a plain degeneracy
 -- that leaves its height out, and the identity does not factor through it
-loose_stays : plain_normal_form 3 loose [] ≡ leg 3 loose (ident 3 loose)
-unfolding plain_normal_form factor_through ident comp dual after no_dia no_arr
+loose_stays : normal_form keep.Plain 3 loose [] ≡ leg 3 loose (ident 3 loose)
+unfolding normal_form factor_through ident comp dual after no_dia no_arr
 loose_stays = refl
 
 loose_rival : has_factor 3 (record { heights = []; regs = ident 2 inner ∷ ident 2 inner ∷ []; sings = [] }) (ident 3 loose) ≡ false
@@ -172,10 +172,10 @@ loose_goes = refl
 abbrev renamed : Label → Label
 renamed y = record { number = y.number + y.dim; dim = y.dim }
 
-renamed_form : normal_form 1 (relabelled renamed 1 (padded f)) [] ≡ on_leg 1 1 (relabelled renamed 1) (relabelled_arrow renamed 1) (leg 1 (loop f) (past f))
+renamed_form : normal_form keep.Free 1 (relabelled renamed 1 (padded f)) [] ≡ on_leg 1 1 (relabelled renamed 1) (relabelled_arrow renamed 1) (leg 1 (loop f) (past f))
 unfolding normal_form factor_through ident comp dual after no_dia no_arr relabelled relabelled_arrow
 renamed_form = refl
 
-suspended_form : normal_form 2 (suspended 1 (padded f)) [] ≡ on_leg 1 2 (suspended 1) (suspended_arrow 1) (leg 1 (loop f) (past f))
+suspended_form : normal_form keep.Free 2 (suspended 1 (padded f)) [] ≡ on_leg 1 2 (suspended 1) (suspended_arrow 1) (leg 1 (loop f) (past f))
 unfolding normal_form factor_through ident comp dual after no_dia no_arr suspended suspended_arrow
 suspended_form = refl

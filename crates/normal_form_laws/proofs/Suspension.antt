@@ -195,7 +195,7 @@ base_keeps = record {
   plain_diagrams = λ x p. record { regs = λ j l. tt; sings = λ i l. tt; fwds = λ k l. tt; bwds = λ k l. tt };
   shapes = λ x y f vx vy q. image_shape x y f q.0 q.1;
   reduced = λ x G v vl r. record { regs = λ j l. tt; sings = λ i l. tt; hit = λ k l p q. absurd (no_identity x k l p) };
-  plain_reduced = λ x G v vl r. record { sings = λ i l. tt; hit = λ k l p q. absurd (no_identity x k l p) };
+  plain_reduced = λ x G v vl r. record { regs = tt; sings = λ i l. tt; hit = λ k l p q. absurd (no_identity x k l p) };
 }
 
 pub suspension_keeps : (d : ℕ) → KeepsAll d (suc d) (suspended d) (suspended_arrow d)

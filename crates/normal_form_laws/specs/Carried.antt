@@ -1,5 +1,6 @@
 -- What relabelling and suspension keep.
 use Rattle.std.specs.Prelude.{◌≡◌, ℕ, suc, List}
+use Rattle.diagram_terms.specs.declared.place.Keep.TheVariants as keep
 use Rattle.diagram_terms.specs.declared.label.Label.{Label}
 use Rattle.diagram_terms.specs.Composite.{comp, ident}
 use Rattle.diagram_terms.specs.Degeneracy.{Degeneracy}
@@ -8,7 +9,6 @@ use Rattle.diagram_terms.specs.Identity.{IsIdentity}
 use Rattle.diagram_terms.specs.Least.{Leg, ValidLegs, ReducedFor}
 use Rattle.diagram_terms.specs.NormalForms.{normal_form}
 use Rattle.diagram_terms.specs.Plain.{PlainArrow, Plain}
-use Rattle.diagram_terms.specs.PlainForms.{PlainReducedFor, plain_normal_form}
 use Rattle.diagram_terms.specs.Relabelling.{relabelled, relabelled_arrow, RisesWithDimension}
 use Rattle.diagram_terms.specs.SliceMaps.{on_leg, on_legs}
 use Rattle.diagram_terms.specs.Suspension.{suspended, suspended_arrow}
@@ -25,14 +25,14 @@ pub record CarriesOver (d e : ℕ) (o : Dia d → Dia e) (a : Arr d → Arr e) :
   pub plain_arrows : (f : Arr d) → PlainArrow d f → PlainArrow e (a f)
   pub plain_diagrams : (X : Dia d) → Plain d X → Plain e (o X)
   pub degeneracies : (X Y : Dia d) (f : Arr d) → Degeneracy d X Y f → Degeneracy e (o X) (o Y) (a f)
-  pub reduced : (X : Dia d) (gs : List (Leg d)) → Valid d X → ValidLegs d X gs → ReducedFor d X gs
-      → ReducedFor e (o X) (on_legs d e o a gs)
-  pub plain_reduced : (X : Dia d) (gs : List (Leg d)) → Valid d X → ValidLegs d X gs → PlainReducedFor d X gs
-      → PlainReducedFor e (o X) (on_legs d e o a gs)
+  pub reduced : (X : Dia d) (gs : List (Leg d)) → Valid d X → ValidLegs d X gs → ReducedFor keep.Free d X gs
+      → ReducedFor keep.Free e (o X) (on_legs d e o a gs)
+  pub plain_reduced : (X : Dia d) (gs : List (Leg d)) → Valid d X → ValidLegs d X gs → ReducedFor keep.Plain d X gs
+      → ReducedFor keep.Plain e (o X) (on_legs d e o a gs)
   pub normal_forms : (T : Dia d) (legs : List (Leg d)) → Valid d T → ValidLegs d T legs
-      → normal_form e (o T) (on_legs d e o a legs) ≡ on_leg d e o a (normal_form d T legs)
+      → normal_form keep.Free e (o T) (on_legs d e o a legs) ≡ on_leg d e o a (normal_form keep.Free d T legs)
   pub plain_forms : (T : Dia d) (legs : List (Leg d)) → Valid d T → Plain d T → ValidLegs d T legs
-      → plain_normal_form e (o T) (on_legs d e o a legs) ≡ on_leg d e o a (plain_normal_form d T legs)
+      → normal_form keep.Plain e (o T) (on_legs d e o a legs) ≡ on_leg d e o a (normal_form keep.Plain d T legs)
 
 -- relabelling by a map under which greater dimensions stay greater does so
 abbrev pub RelabellingCarriesOver : ℕ → Type 0

@@ -1,6 +1,7 @@
 -- The laws of normal forms, each at one dimension.
 use Rattle.std.specs.Prelude.{◌≡◌, ◌↔◌, ◌<◌, ℕ, List, [], length, true, Some, None, suc}
 use Rattle.std.specs.List.{Any}
+use Rattle.diagram_terms.specs.declared.place.Keep.TheVariants as keep
 use Rattle.diagram_terms.specs.declared.label.Label.{Label}
 use Rattle.diagram_terms.specs.Family.{Dia, Arr, reg, sing}
 use Rattle.diagram_terms.specs.Composite.{comp, ident, identity_diagram}
@@ -39,76 +40,76 @@ MissingFactorsAreAnswered d = (W R T : Dia d) (f e : Arr d) → Valid d W → Va
 -- the normal form of a valid diagram relative to valid legs is a degeneracy out of a valid diagram
 abbrev pub NormalFormsAreDegeneracies : ℕ → Type 0
 NormalFormsAreDegeneracies d = (T : Dia d) (legs : List (Leg d)) → Valid d T → ValidLegs d T legs
-    → Valid d (normal_form d T legs).source × Degeneracy d (normal_form d T legs).source T (normal_form d T legs).arrow
+    → Valid d (normal_form keep.Free d T legs).source × Degeneracy d (normal_form keep.Free d T legs).source T (normal_form keep.Free d T legs).arrow
 
 -- the legs factor through it by their factors
 abbrev pub LegsFactorThroughNormalForms : ℕ → Type 0
 LegsFactorThroughNormalForms d = (T : Dia d) (legs : List (Leg d)) → Valid d T → ValidLegs d T legs
-    → LegsFactorBy d legs (normal_form d T legs).source (normal_form d T legs).arrow
-    (factor_legs d (normal_form d T legs).arrow legs)
+    → LegsFactorBy d legs (normal_form keep.Free d T legs).source (normal_form keep.Free d T legs).arrow
+    (factor_legs d (normal_form keep.Free d T legs).arrow legs)
 
 -- its source is reduced for the factors
 abbrev pub NormalFormsAreReduced : ℕ → Type 0
 NormalFormsAreReduced d = (T : Dia d) (legs : List (Leg d)) → Valid d T → ValidLegs d T legs
-    → ReducedFor d (normal_form d T legs).source (factor_legs d (normal_form d T legs).arrow legs)
+    → ReducedFor keep.Free d (normal_form keep.Free d T legs).source (factor_legs d (normal_form keep.Free d T legs).arrow legs)
 
 -- so it is the least degeneracy for the legs
 abbrev pub NormalFormsAreLeast : ℕ → Type 0
 NormalFormsAreLeast d = (T : Dia d) (legs : List (Leg d)) → Valid d T → ValidLegs d T legs
-    → IsLeast d T legs (normal_form d T legs).source (normal_form d T legs).arrow
+    → IsLeast keep.Free d T legs (normal_form keep.Free d T legs).source (normal_form keep.Free d T legs).arrow
 
 -- each valid diagram has a least degeneracy for each list of valid legs
 abbrev pub LeastExists : ℕ → Type 0
 LeastExists d = (T : Dia d) (legs : List (Leg d)) → Valid d T → ValidLegs d T legs
-    → (S : Dia d) × (a : Arr d) × IsLeast d T legs S a
+    → (S : Dia d) × (a : Arr d) × IsLeast keep.Free d T legs S a
 
 -- the least degeneracy for valid legs is their normal form, source and arrow
 abbrev pub LeastIsNormalForm : ℕ → Type 0
-LeastIsNormalForm d = (T S : Dia d) (legs : List (Leg d)) (a : Arr d) → ValidLegs d T legs → IsLeast d T legs S a
-    → record { source = S; arrow = a } ≡ normal_form d T legs
+LeastIsNormalForm d = (T S : Dia d) (legs : List (Leg d)) (a : Arr d) → ValidLegs d T legs → IsLeast keep.Free d T legs S a
+    → record { source = S; arrow = a } ≡ normal_form keep.Free d T legs
 
 -- its source is reduced for the factors of the legs
 abbrev pub LeastIsReduced : ℕ → Type 0
-LeastIsReduced d = (T S : Dia d) (legs gs : List (Leg d)) (a : Arr d) → ValidLegs d T legs → IsLeast d T legs S a
-    → LegsFactorBy d legs S a gs → ReducedFor d S gs
+LeastIsReduced d = (T S : Dia d) (legs gs : List (Leg d)) (a : Arr d) → ValidLegs d T legs → IsLeast keep.Free d T legs S a
+    → LegsFactorBy d legs S a gs → ReducedFor keep.Free d S gs
 
 -- let valid legs into T factor by gs through a degeneracy a : S → T: if S is reduced for gs, then a is the normal form,
 -- and gs are the factors
 abbrev pub ReducedIsNormalForm : ℕ → Type 0
 ReducedIsNormalForm d = (T S : Dia d) (legs gs : List (Leg d)) (a : Arr d) → ValidLegs d T legs → Degeneracy d S T a
-    → LegsFactorBy d legs S a gs → ReducedFor d S gs
-    → (record { source = S; arrow = a } ≡ normal_form d T legs) × (gs ≡ factor_legs d a legs)
+    → LegsFactorBy d legs S a gs → ReducedFor keep.Free d S gs
+    → (record { source = S; arrow = a } ≡ normal_form keep.Free d T legs) × (gs ≡ factor_legs d a legs)
 
 -- the normal form of a normal form relative to the factors is its identity
 abbrev pub NormalFormsAreNormal : ℕ → Type 0
 NormalFormsAreNormal d = (T : Dia d) (legs : List (Leg d)) → Valid d T → ValidLegs d T legs
-    → normal_form d (normal_form d T legs).source (factor_legs d (normal_form d T legs).arrow legs)
-    ≡ record { source = (normal_form d T legs).source; arrow = ident d (normal_form d T legs).source }
+    → normal_form keep.Free d (normal_form keep.Free d T legs).source (factor_legs d (normal_form keep.Free d T legs).arrow legs)
+    ≡ record { source = (normal_form keep.Free d T legs).source; arrow = ident d (normal_form keep.Free d T legs).source }
 
 -- what is tested of a reduced diagram decides whether it is reduced
 abbrev pub ReducedIsDecided : ℕ → Type 0
-ReducedIsDecided d = (S : Dia d) (gs : List (Leg d)) → (is_reduced d S gs ≡ true) ↔ ReducedFor d S gs
+ReducedIsDecided d = (S : Dia d) (gs : List (Leg d)) → (is_reduced d S gs ≡ true) ↔ ReducedFor keep.Free d S gs
 
 -- a certificate is exactly a least degeneracy for valid legs into a valid diagram, with the factors of the legs
 abbrev pub CertificatesAreExact : ℕ → Type 0
 CertificatesAreExact d = (T S : Dia d) (legs gs : List (Leg d)) (a : Arr d)
-    → IsCertificate d T legs S a gs ↔ (Valid d T × ValidLegs d T legs × IsLeast d T legs S a × LegsFactorBy d legs S a gs)
+    → IsCertificate d T legs S a gs ↔ (Valid d T × ValidLegs d T legs × IsLeast keep.Free d T legs S a × LegsFactorBy d legs S a gs)
 
 -- and the normal form with the factors has one
 abbrev pub NormalFormsHaveCertificates : ℕ → Type 0
 NormalFormsHaveCertificates d = (T : Dia d) (legs : List (Leg d)) → Valid d T → ValidLegs d T legs
-    → IsCertificate d T legs (normal_form d T legs).source (normal_form d T legs).arrow (factor_legs d (normal_form d T legs).arrow legs)
+    → IsCertificate d T legs (normal_form keep.Free d T legs).source (normal_form keep.Free d T legs).arrow (factor_legs d (normal_form keep.Free d T legs).arrow legs)
 
 -- ---- what the type check needs
 
 -- both ends of a degeneracy have one normal form
 abbrev pub DegeneraciesKeepNormalForms : ℕ → Type 0
 DegeneraciesKeepNormalForms d = (S T : Dia d) (e : Arr d) → Degeneracy d S T e
-    → normal_form d T [] ≡ record { source = normal_diagram d S; arrow = comp d e (normal_form d S []).arrow }
+    → normal_form keep.Free d T [] ≡ record { source = normal_diagram d S; arrow = comp d e (normal_form keep.Free d S []).arrow }
 
 -- a diagram that is reduced for no legs, with a degeneracy into T, is the normal form of T
 abbrev pub ReducedSourcesAreNormal : ℕ → Type 0
-ReducedSourcesAreNormal d = (S T : Dia d) (a : Arr d) → Degeneracy d S T a → ReducedFor d S [] → normal_diagram d T ≡ S
+ReducedSourcesAreNormal d = (S T : Dia d) (a : Arr d) → Degeneracy d S T a → ReducedFor keep.Free d S [] → normal_diagram d T ≡ S
 
 -- so is each normal form its own
 abbrev pub NormalDiagramsAreNormal : ℕ → Type 0

@@ -1,5 +1,5 @@
 -- The definitions at small diagrams, by computation.
-use Rattle.std.proofs.Common.{◌≡◌, [], ◌∷◌, refl}
+use Rattle.std.proofs.Common.{◌≡◌, [], ◌∷◌, map, refl, arith, inl}
 use Rattle.diagram_terms.specs.declared.label.Label.{Label}
 use Rattle.diagram_terms.specs.declared.place.Height.{Height}
 use Rattle.diagram_terms.specs.declared.place.Height.TheVariants as height_kind
@@ -11,6 +11,8 @@ use Rattle.diagram_terms.specs.Regions.{Reg, no_region, whole_region}
 use Rattle.diagram_terms.specs.Preimages.{preimage}
 use Rattle.diagram_terms.specs.PointRegions.{point_region}
 use Rattle.diagram_terms.specs.Paths.{point_label}
+use Rattle.diagram_terms.specs.PointOrder.{IsBefore}
+use Rattle.diagram_terms.specs.Points.{Point, points}
 use Rattle.diagram_terms.specs.Cuts.{cut_arrow, cut_diagram}
 use Rattle.diagram_terms.specs.Neighbourhoods.{neighbourhood, identity_cospan}
 use Rattle.diagram_terms.specs.CutsOfCuts.{uncut_region, cut_path}
@@ -62,6 +64,12 @@ second_neighbourhood = unfold point_region preimage cut_diagram cut_arrow no_reg
 regular_neighbourhood : neighbourhood 1 two_heights (r1 ∷ []) ≡ identity_diagram 0 x
 regular_neighbourhood = unfold point_region preimage cut_diagram cut_arrow no_region no_dia no_arr in refl
 
+-- its points, in order, with their labels
+all_points : points 1 two_heights
+    ≡ record { heights = r0 ∷ []; label = x } ∷ record { heights = s0 ∷ []; label = x } ∷ record { heights = r1 ∷ []; label = x }
+    ∷ record { heights = s1 ∷ []; label = f } ∷ record { heights = height_kind.R 2 ∷ []; label = x } ∷ []
+all_points = unfold no_dia in refl
+
 second_label : point_label 1 two_heights (s1 ∷ []) ≡ f
 second_label = unfold no_dia in refl
 
@@ -103,6 +111,16 @@ twice = record { regs = loop ∷ loop ∷ loop ∷ []; sings = disc ∷ disc ∷
 
 second_cell : neighbourhood 2 twice (s1 ∷ s0 ∷ []) ≡ cell
 second_cell = unfold point_region preimage cut_diagram cut_arrow type_over mid cone ident dual no_region no_dia no_arr in refl
+
+-- the points of the one cell: three at each of its two regular slices, and three at the disc between them
+cell_points : map (λ (p : Point). p.heights) (points 2 cell)
+    ≡ (r0 ∷ r0 ∷ []) ∷ (r0 ∷ s0 ∷ []) ∷ (r0 ∷ r1 ∷ []) ∷ (s0 ∷ r0 ∷ []) ∷ (s0 ∷ s0 ∷ []) ∷ (s0 ∷ r1 ∷ [])
+    ∷ (r1 ∷ r0 ∷ []) ∷ (r1 ∷ s0 ∷ []) ∷ (r1 ∷ r1 ∷ []) ∷ []
+cell_points = unfold type_over mid cone ident no_dia no_arr in refl
+
+-- the outermost height is compared first
+comes_before : IsBefore (r0 ∷ s1 ∷ []) (s0 ∷ r0 ∷ [])
+comes_before = inl (omega arith)
 
 -- at the source of the disc no height is left
 edge_of_cell : neighbourhood 2 twice (s1 ∷ r0 ∷ []) ≡ cospan 1 (identity_diagram 0 x) (ident 1 (identity_diagram 0 x)) (identity_diagram 0 x) (ident 1 (identity_diagram 0 x)) (identity_diagram 0 x)

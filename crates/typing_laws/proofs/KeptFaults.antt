@@ -1,5 +1,5 @@
 -- What stays of a fault when the generators change.
-use Rattle.std.proofs.Common.{◌≡◌, ℕ, ◌-◌, List, [], ◌∷◌, take, Bool, true, false, ◌&&◌, cond, nat_le, Option, option_map, None, Some, slice_get, sym, ap, ◌∙◌, inl, inr}
+use Rattle.std.proofs.Common.{◌≡◌, ℕ, suc, ◌-◌, ◌<◌, List, [], ◌∷◌, take, Bool, true, false, ◌&&◌, cond, nat_le, Option, option_map, None, Some, slice_get, length, sym, ap, ◌∙◌, subst, arith, inl, inr}
 use Rattle.std.proofs.lemmas.Bool.{cases_Bool, cond-false, true≢false}
 use Rattle.std.proofs.lemmas.List.Elements.{All-weaker}
 use Rattle.diagram_terms.specs.declared.label.Label.{Label}
@@ -7,13 +7,16 @@ use Rattle.diagram_terms.specs.declared.place.Fault.{Fault}
 use Rattle.diagram_terms.specs.declared.place.Fault.TheVariants as fault
 use Rattle.diagram_terms.specs.declared.place.Height.{Height}
 use Rattle.diagram_terms.specs.Family.{Dia}
+use Rattle.diagram_terms.specs.Paths.{point_label}
+use Rattle.diagram_terms.specs.PointOrder.{point_at}
 use Rattle.diagram_terms.specs.Points.{Point, points}
 use Rattle.diagram_terms.specs.Typing.{Generator, has_dim, is_generator, first_of}
 use Rattle.diagram_terms.specs.NormalForms.{normal_diagram}
 use Rattle.diagram_terms.specs.SameDiagrams.{same_diagram}
 use Rattle.diagram_terms.specs.Neighbourhoods.{neighbourhood}
 use Rattle.diagram_terms.specs.FullTyping.{under_identities, normal_type, no_generator, other_type, fault_at, verdict, fault_in, first_fault_among}
-use Rattle.typing_laws.specs.Laws.{FaultsDependOnLabels, MoreGeneratorsKeepTypeFaults}
+use Rattle.region_laws.proofs.ListedPoints.{points_are_listed}
+use Rattle.typing_laws.specs.Laws.{FaultsDependOnLabels, MoreGeneratorsKeepTypeFaults, LabelFaultsDependOnOne}
 use Rattle.typing_laws.proofs.FaultLists.{first-agree}
 use Rattle.typing_laws.proofs.WellTypedness.{found_more, more_known}
 
@@ -79,3 +82,48 @@ module _ (n : ℕ) (generators : List Generator) (d : ℕ) (X : Dia d) (hs : Lis
 
 pub more_generators_keep_type_faults : (d : ℕ) → MoreGeneratorsKeepTypeFaults d
 more_generators_keep_type_faults d n generators X hs e = type_faults_stay n generators d X hs (points d X) e
+
+-- ---- a fault that is a label
+
+abbrev place_of : Option Fault → List Height
+place_of None = []
+place_of (Some (fault.SquareAt p)) = []
+place_of (Some (fault.LooseAt steps)) = []
+place_of (Some (fault.LabelAt hs)) = hs
+place_of (Some (fault.TypeAt hs)) = []
+
+-- the points of the list have the labels to which their heights lead
+abbrev AreLabelled : (d : ℕ) → Dia d → List Point → Type 0
+AreLabelled d X ps = (i : ℕ) → i < length ps → (point_at ps i).label ≡ point_label d X (point_at ps i).heights
+
+module _ (n : ℕ) (generators : List Generator) (d : ℕ) (X : Dia d) (hs : List Height)
+    (same : slice_get (take n generators) (point_label d X hs).number ≡ slice_get generators (point_label d X hs).number) where
+  abbrev before : Point → Option Fault
+  before = fault_in (take n generators) d X
+
+  abbrev now : Point → Option Fault
+  now = fault_in generators d X
+
+  label_kept_after : (o rest later : Option Fault) → (rest ≡ Some (fault.LabelAt hs) → later ≡ Some (fault.LabelAt hs))
+      → first_of o rest ≡ Some (fault.LabelAt hs) → first_of o later ≡ Some (fault.LabelAt hs)
+  label_kept_after None rest later h e = h e
+  label_kept_after (Some x) rest later h e = e
+
+  label_faults_stay : (ps : List Point) → AreLabelled d X ps → first_fault_among before ps ≡ Some (fault.LabelAt hs)
+      → first_fault_among now ps ≡ Some (fault.LabelAt hs)
+  label_faults_stay [] a e = e
+  label_faults_stay (p ∷ ps) a e = elim (cases_Bool (is_generator (take n generators) p.label)) [
+    | inl k ↦ ap (λ (o : Option Fault). first_of o (first_fault_among now ps)) (known_same n generators d X hs p k)
+        ∙ label_kept_after (before p) (first_fault_among before ps) (first_fault_among now ps)
+        (label_faults_stay ps (λ i l. a (suc i) (omega arith))) e
+    | inr k ↦ (let u : before p ≡ Some (fault.LabelAt p.heights) = unknown_fault (take n generators) d X p k in
+        let z : p.heights ≡ hs = ap place_of (sym (ap (λ (o : Option Fault). first_of o (first_fault_among before ps)) u) ∙ e) in
+        let x : p.label ≡ point_label d X hs = a 0 (omega arith) ∙ ap (point_label d X) z in
+        let s : now p ≡ before p = fault_by_label generators (take n generators) d X p
+        (subst (λ (y : Label). slice_get generators y.number ≡ slice_get (take n generators) y.number) (sym x) (sym same)) in
+        ap (λ (o : Option Fault). first_of o (first_fault_among now ps)) (s ∙ u) ∙ ap (λ (t : List Height). Some (fault.LabelAt t)) z)
+  ]
+
+pub label_faults_depend_on_one : (d : ℕ) → LabelFaultsDependOnOne d
+label_faults_depend_on_one d n generators X hs same e =
+    label_faults_stay n generators d X hs same (points d X) (points_are_listed d X).labels e

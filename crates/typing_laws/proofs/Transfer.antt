@@ -2,6 +2,7 @@
 -- point where one stands.
 use Rattle.std.proofs.Common.{◌≡◌, ℕ, zero, suc, ◌+◌, ◌-◌, ◌≤◌, List, [], true, None, Some, slice_get, refl, sym, ap, ◌∙◌, subst, arith}
 use Rattle.std.proofs.lemmas.Bool.{leb-true}
+use Rattle.diagram_terms.specs.declared.place.Keep.TheVariants as keep
 use Rattle.diagram_terms.specs.declared.label.Label.{Label}
 use Rattle.diagram_terms.specs.declared.place.Height.{Height}
 use Rattle.diagram_terms.specs.Composite.{ident, identity_diagram}
@@ -66,8 +67,8 @@ pulled_is_alike d Q X e hs vQ vX degeneracy q =
 
 pub normal_forms_have_points : (d : ℕ) → NormalFormsHavePoints d
 normal_forms_have_points d X Y hs vX vY same q =
-    let A : Leg d = normal_form d X [] in
-    let B : Leg d = normal_form d Y [] in
+    let A : Leg d = normal_form keep.Free d X [] in
+    let B : Leg d = normal_form keep.Free d Y [] in
     let nX = normal_forms_are_degeneracies d X [] vX (no_legs d X) in
     let nY = normal_forms_are_degeneracies d Y [] vY (no_legs d Y) in
     let ps : List Height = pulled_point d X A.arrow hs in

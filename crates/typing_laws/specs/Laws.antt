@@ -255,6 +255,12 @@ abbrev pub MoreGeneratorsKeepTypeFaults : ℕ → Type 0
 MoreGeneratorsKeepTypeFaults d = (n : ℕ) (generators : List Generator) (X : Dia d) (hs : List Height)
     → first_full_point_fault (take n generators) d X ≡ Some (fault.TypeAt hs) → first_full_point_fault generators d X ≡ Some (fault.TypeAt hs)
 
+-- and one that is the label of a point stays so as long as the generator of its number is the same, or still missing
+abbrev pub LabelFaultsDependOnOne : ℕ → Type 0
+LabelFaultsDependOnOne d = (n : ℕ) (generators : List Generator) (X : Dia d) (hs : List Height)
+    → slice_get (take n generators) (point_label d X hs).number ≡ slice_get generators (point_label d X hs).number
+    → first_full_point_fault (take n generators) d X ≡ Some (fault.LabelAt hs) → first_full_point_fault generators d X ≡ Some (fault.LabelAt hs)
+
 -- a label passes where the neighbourhood is the type of its generator itself under identities: no normal form is needed there
 abbrev pub TypesPassAtOnce : ℕ → Type 0
 TypesPassAtOnce n = (generators : List Generator) (x : Label) (g : Generator) (M : Dia n) → slice_get generators x.number ≡ Some g
