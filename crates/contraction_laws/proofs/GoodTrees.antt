@@ -1,62 +1,28 @@
 -- The trees of contractions and of settlings.
-use Rattle.std.proofs.Common.{◌≡◌, ℕ, zero, suc, ◌+◌, Bool, List, length, refl, sym, ap, ◌∙◌, subst, arith}
+use Rattle.std.proofs.Common.{◌≡◌, ℕ, zero, suc, ◌+◌, Bool, List, length, refl, sym, ap, subst, arith}
 use Rattle.std.specs.Prelude.{◌↔◌, Result, Ok, Err}
 use Rattle.std.proofs.lemmas.List.{length-map}
 use Rattle.diagram_terms.specs.declared.place.Bias.{Bias}
-use Rattle.diagram_terms.specs.Cone.{Parallel}
 use Rattle.diagram_terms.specs.Decoded.{dia, arr, dia_tree, arr_tree}
 use Rattle.diagram_terms.specs.Dimension.{dimension_of}
-use Rattle.diagram_terms.specs.Family.{Dia, reg, length_of}
-use Rattle.diagram_terms.specs.Shape.{IsDiagram, IsArrow, reg_at}
-use Rattle.diagram_terms.specs.Slices.{AreParallel, source_tree, target_tree}
+use Rattle.diagram_terms.specs.Family.{Dia, length_of}
+use Rattle.diagram_terms.specs.Shape.{IsArrow}
+use Rattle.diagram_terms.specs.Slices.{AreParallel}
 use Rattle.diagram_terms.specs.OnTrees.{on_diagram}
 use Rattle.diagram_terms.specs.Tree.{Tree}
-use Rattle.diagram_terms.proofs.Dimensions.{diagram_dimension, arrow_dimension}
-use Rattle.diagram_terms.proofs.FamilyShapes.{diagram_shape, arrow_shape, valid_fits, valid_arrow_fits}
-use Rattle.diagram_terms.proofs.Glue.{dia-dia_tree, arr-arr_tree, dia_tree-dia, dia_tree-sings_len, dia_tree-reg}
+use Rattle.diagram_terms.proofs.Dimensions.{arrow_dimension}
+use Rattle.diagram_terms.proofs.FamilyShapes.{arrow_shape, valid_arrow_fits}
+use Rattle.diagram_terms.proofs.Glue.{dia-dia_tree, arr-arr_tree, dia_tree-dia}
 use Rattle.diagram_terms.specs.Good.{GoodDiagram, GoodArrow}
 use Rattle.diagram_terms.specs.Contraction.{Contraction, ContractionFault, ContractsAlong, RefusesAlong, contract, stored_contraction}
 use Rattle.diagram_terms.specs.Settling.{Step, settled, all_steps, settle}
 use Rattle.diagram_terms.specs.GoodTrees.{IsGoodTree, IsGoodArrowTree}
 use Rattle.diagram_terms.specs.ContractionTrees.{ContractionTrees, trees_of_contraction, contraction_trees}
-use Rattle.diagram_terms.specs.SettlingTrees.{steps_at, steps_in, settling_heights, settled_tree, settling_tree}
+use Rattle.diagram_terms.specs.SettlingTrees.{steps_at, settling_heights, settled_tree, settling_tree}
+use Rattle.occurrence_laws.proofs.TreeParts.{good_tree, tree-dimension, parallel_trees}
 use Rattle.contraction_laws.proofs.TwoHeights.{good_contraction, one_boundary, good_stored_contraction}
 use Rattle.contraction_laws.proofs.ContractionProofs.{contraction_answered, contraction_fault_answered, answers_contractions, answers_contraction_faults}
 use Rattle.contraction_laws.proofs.Settlings.{good_settled, good_steps, settled-length, settle-settles, none-good}
-
--- ---- trees of valid plain diagrams and arrows
-
-module _ (n : ℕ) (X : Dia n) (g : GoodDiagram n X) where
-  shape-of : IsDiagram n (dia_tree n X)
-  shape-of = diagram_shape n X (valid_fits n X g.valid)
-
-  pub tree-dimension : dimension_of (dia_tree n X) ≡ n
-  tree-dimension = diagram_dimension n (dia_tree n X) shape-of
-
-  pub good_tree : IsGoodTree (dia_tree n X)
-  good_tree = record {
-    shape = subst (λ (m : ℕ). IsDiagram m (dia_tree n X)) (sym tree-dimension) shape-of;
-    good = subst (λ (m : ℕ). GoodDiagram m (dia m (dia_tree n X))) (sym tree-dimension) (subst (GoodDiagram n) (sym (dia-dia_tree n X)) g);
-  }
-
--- parallel diagrams have parallel trees
-parallel_trees : (n : ℕ) (X Y : Dia n) → GoodDiagram n X → GoodDiagram n Y → Parallel n X Y → AreParallel (dia_tree n X) (dia_tree n Y)
-parallel_trees zero X Y gX gY p =
-    let a = tree-dimension zero X gX in
-    let b = tree-dimension zero Y gY in
-    record { dims = a ∙ sym b; sources = λ l. absurd (omega arith); targets = λ l. absurd (omega arith) }
-parallel_trees (suc d) X Y gX gY p =
-    let a = tree-dimension (suc d) X gX in
-    let b = tree-dimension (suc d) Y gY in
-    let first : (Z : Dia (suc d)) → GoodDiagram (suc d) Z → source_tree (dia_tree (suc d) Z) ≡ dia_tree d (reg d Z 0) =
-    λ Z g. dia_tree-reg d Z 0 (let n = g.valid.regs_len in omega arith) in
-    let last : (Z : Dia (suc d)) → GoodDiagram (suc d) Z → target_tree (dia_tree (suc d) Z) ≡ dia_tree d (reg d Z (length Z.sings)) =
-    λ Z g. ap (reg_at (dia_tree (suc d) Z)) (dia_tree-sings_len d Z) ∙ dia_tree-reg d Z (length Z.sings) (let n = g.valid.regs_len in omega arith) in
-    record {
-      dims = a ∙ sym b;
-      sources = λ l. first X gX ∙ ap (dia_tree d) p.sources ∙ sym (first Y gY);
-      targets = λ l. last X gX ∙ ap (dia_tree d) p.targets ∙ sym (last Y gY);
-    }
 
 -- ---- contraction
 
@@ -148,21 +114,21 @@ module _ (t : Tree) (g : IsGoodTree t) where
           shorter = settled-length d test D (settle d test D) gD s;
         }
 
-    hold : StepsHold n C (steps_in accept t)
+    hold : StepsHold n C (steps_at accept n C)
     hold = steps_hold n C g.good
 
     pub settling_tree-good : IsGoodTree (settling_tree accept t) × (dimension_of (settling_tree accept t) ≡ suc n)
-    unfolding settling_tree
+    unfolding settling_tree on_diagram
     settling_tree-good = let a = hold.all in (good_tree (suc n) _ a, tree-dimension (suc n) _ a)
 
     pub settled_tree-good : IsGoodTree (settled_tree accept t) × (dimension_of (settled_tree accept t) ≡ n)
-    unfolding settled_tree
+    unfolding settled_tree on_diagram
     settled_tree-good = let a = hold.left in (good_tree n _ a, tree-dimension n _ a)
 
     pub settled_tree-shorter : length_of n (dia n (settled_tree accept t)) + length (settling_heights accept t) ≡ length_of n C
-    unfolding settled_tree settling_heights
+    unfolding settled_tree settling_heights on_diagram
     settled_tree-shorter =
-        let steps : List (Step n) = steps_in accept t in
+        let steps : List (Step n) = steps_at accept n C in
         let a = ap (length_of n) (dia-dia_tree n (settled n C steps)) in
         let b = length-map steps (λ (s : Step n). s.height) in
         let e = hold.shorter in

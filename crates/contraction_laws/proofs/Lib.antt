@@ -3,6 +3,7 @@ pub mod ContractionProofs
 pub mod GoodTrees
 pub mod LawProofs
 pub mod SampleContractions
+pub mod SampleNeighbourhoods
 pub mod SampleSettlings
 pub mod Settlings
 pub mod StepPoints

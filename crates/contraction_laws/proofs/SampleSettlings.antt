@@ -65,4 +65,4 @@ beside_trees = unfold contraction_trees on_diagram point zig ends zag label_at f
 
 -- the height of the one step
 three_heights : settling_heights (λ t. true) (dia_tree 2 three) ≡ 0 ∷ []
-three_heights = unfold settling_heights point zig ends zag label_at from_at to_at regs sings fwds bwds heights dimension_of swap put image arrow_image arrow_segment cone mid members_of least_by links_of classes comes_before all_links held chains first_on_cycle is_least are_apart first_pair_apart is_available next_member give ranks_given ranks_under names place part part_leg enter_class leave_class apex_reg glued_apex glued_leg first_greatest first_above each_part colimit_of dual after comp ident no_dia no_arr segment diagram_sum arrow_sum to_one_height contract_from open_at first_open steps_of settle in refl
+three_heights = unfold settling_heights on_diagram point zig ends zag label_at from_at to_at regs sings fwds bwds heights dimension_of swap put image arrow_image arrow_segment cone mid members_of least_by links_of classes comes_before all_links held chains first_on_cycle is_least are_apart first_pair_apart is_available next_member give ranks_given ranks_under names place part part_leg enter_class leave_class apex_reg glued_apex glued_leg first_greatest first_above each_part colimit_of dual after comp ident no_dia no_arr segment diagram_sum arrow_sum to_one_height contract_from open_at first_open steps_of settle in refl

@@ -72,6 +72,9 @@ pub mod ColimitProgram
 pub mod Contraction
 pub mod Settling
 pub mod GoodTrees
+pub mod SumTrees
+pub mod AttachmentTrees
+pub mod ExpansionTrees
 pub mod ContractionTrees
 pub mod SettlingTrees
 pub mod Levels

@@ -1,12 +1,11 @@
 -- What an expansion answers.
-use Rattle.std.proofs.Common.{◌≡◌, ℕ, zero, suc, ◌<◌, Bool, true, false, nat_lt, length, refl, sym, ap, ◌∙◌, subst}
-use Rattle.std.specs.Prelude.{◌↔◌, Result, Ok, Err}
+use Rattle.std.proofs.Common.{◌≡◌, ℕ, zero, suc, ◌<◌, Bool, true, false, nat_lt, length, refl, ap, ◌∙◌, subst}
+use Rattle.std.specs.Prelude.{Result, Ok, Err}
 use Rattle.std.proofs.lemmas.Bool.{ltb-true, lt-ltb}
-use Rattle.diagram_terms.specs.Family.{Dia, Arr, sing}
-use Rattle.diagram_terms.specs.Cone.{Parallel}
-use Rattle.diagram_terms.specs.Good.{GoodDiagram, GoodArrow}
+use Rattle.diagram_terms.specs.Family.{Dia, sing}
+use Rattle.diagram_terms.specs.Good.{GoodArrow}
 use Rattle.diagram_terms.specs.Tested.{if_passed}
-use Rattle.diagram_terms.specs.Expansion.{expanded, expanding, Expansion, stored_expansion, ExpansionFault, no_height, nothing_to_part, expand}
+use Rattle.diagram_terms.specs.Expansion.{expanded, expanding, Expansion, ExpansionFault, no_height, nothing_to_part, expand}
 use Rattle.plain_laws.proofs.PlainEnds.{plain_arrows_have_parallel_ends}
 use Rattle.occurrence_laws.specs.Laws.{ExpansionsAreGood, ExpansionsHaveOneBoundary, StoredExpansionsAreGood, ExpansionsAreAnswered}
 use Rattle.occurrence_laws.proofs.Expansions.{good_expanding}

@@ -3,6 +3,7 @@
 #![tactic(auto)]
 
 ghost use Rattle.std.specs.Prelude.{ℕ};
+ghost use Rattle.occurrence_laws.specs.TreeLaws.{AttachedTreesAtSourceAreGood, AttachedTreesAtTargetAreGood, ExpansionTreesAreGood, MatchTreesAreOccurrences, SumTreesAreGood};
 ghost use Rattle.occurrence_laws.specs.Laws.{AroundBlocksHaveLists, ArrowSegmentsAreGood, ArrowSegmentsAreWhole, ArrowSegmentsJoin, ArrowSumsAreAssociative, ArrowSumsAreGood, ArrowSumsHaveSegments, AttachedAtSourceHasEnds, AttachedAtSourceIsGood, AttachedAtTargetHasEnds, AttachedAtTargetIsGood, ExpandedHasLists, ExpandingIsGood, ExpansionsAreAnswered, ExpansionsAreGood, ExpansionsHaveOneBoundary, IdentityDiagramsAreNeutral, MatchesAreInOrder, MatchesAreOccurrences, MergedHasLists, MergingAlongIsGood, MergingIsGood, NoRefusedStepMeansInside, PutsAreGood, PutsHaveLists, PutsOfComposites, PutsOfIdentities, RefusedStepsAreWithin, ReplacedAreGood, ReplacedBySameIsSame, ReplacedHasLists, ReplacingHasLists, ReplacingIsGood, SegmentsAreGood, SegmentsAreValid, SegmentsAreWhole, SegmentsHaveEnds, SegmentsJoin, SegmentsOfComposites, SegmentsOfIdentities, SliceReplacedHasLists, SliceReplacingIsGood, StoredArrowsAreGood, StoredExpansionsAreGood, SumsAreAssociative, SumsAreGood, SumsAreValid, SumsHaveEnds, SumsHaveSegments, SumsOfComposites, SumsOfIdentities, SwappedIsInside, SwapsAreGood, SwapsBack, SwapsHaveLists, SwapsTwice, SwapsWithItself};
 
 /// Segments and sums of valid diagrams are valid, and those of valid plain diagrams are valid and
@@ -132,4 +133,14 @@ pub fn expansions_are_answered()
     ensures good { (d : ℕ) → ExpansionsAreGood d }
     ensures boundary { (d : ℕ) → ExpansionsHaveOneBoundary d }
     ensures stored { (d : ℕ) → StoredExpansionsAreGood d }
+{}
+
+/// On trees: sums, attached and expanded diagrams are valid and plain and have the dimension that they
+/// have to have, and the matches are the offsets without a refused step.
+pub fn trees_are_good()
+    ensures sums { SumTreesAreGood }
+    ensures matches { MatchTreesAreOccurrences }
+    ensures at_target { AttachedTreesAtTargetAreGood }
+    ensures at_source { AttachedTreesAtSourceAreGood }
+    ensures expansions { ExpansionTreesAreGood }
 {}
