@@ -10,8 +10,9 @@ use Rattle.workspace_json.specs.Sessions.{Session}
 use Rattle.workspace_json.specs.Workspaces as trees
 use Rattle.session_undo.specs.declared.state.State.{State}
 use Rattle.session_undo.specs.States.{HasRoom, IsState, Stays, lists_of, present_of, session_of}
-use Rattle.session_undo.proofs.GrowthLemmas.{history-kept, session-kept, telling-kept, trees-kept}
-use Rattle.session_undo.proofs.StateLemmas.{generators_are, good_entries}
+use Rattle.workspace_lists.proofs.ForCallers.{trees-kept}
+use Rattle.session_undo.proofs.GrownSessions.{history-kept, session-kept, telling-kept}
+use Rattle.session_undo.proofs.StateInvariant.{generators_are, good_entries}
 
 abbrev pub grown : State → Contents → SignatureState → State
 grown s c signature = record s { store = c; signature = signature }

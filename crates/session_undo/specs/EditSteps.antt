@@ -7,7 +7,8 @@ use Rattle.workspace_lists.specs.declared.workspace.Workspace.{Workspace}
 use Rattle.session_undo.specs.declared.edit.Edit.{Edit}
 use Rattle.session_undo.specs.declared.edit.Edit.TheVariants as edit
 use Rattle.session_undo.specs.declared.entries.Entries.{Entries}
-use Rattle.session_undo.specs.Edits.{AreHeld, HasType, trees_in}
+use Rattle.workspace_lists.specs.Held.{AreHeld, trees_in}
+use Rattle.session_undo.specs.Edits.{HasType}
 use Rattle.session_undo.specs.Meanings.{Tell}
 use Rattle.session_undo.specs.States.{lists_of}
 

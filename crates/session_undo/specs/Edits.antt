@@ -2,27 +2,18 @@
 use Rattle.std.specs.Prelude.{◌≡◌, ℕ, ◌+◌, ◌-◌, ◌<◌, ◌≤◌, List, [], ◌∷◌, ◌++◌, length, map, take, true}
 use Rattle.std.specs.List.{All, insert, remove}
 use Rattle.diagram_terms.specs.GeneratorTypes.{type_of_generator}
-use Rattle.hashcons.specs.Contents.{Contents, IsDiagramOf}
+use Rattle.hashcons.specs.Contents.{Contents}
 use Rattle.typecheck.specs.Signatures.{generator_in}
-use Rattle.workspace_json.specs.Workspaces.{IsWorkspace, Workspace}
+use Rattle.workspace_json.specs.Workspaces.{IsWorkspace}
 use Rattle.workspace_lists.specs.declared.names.Meaning.{Meaning}
 use Rattle.workspace_lists.specs.declared.names.Names.{Names}
 use Rattle.workspace_lists.specs.declared.workspace.Generator.{Generator}
 use Rattle.workspace_lists.specs.declared.workspace.Named.{Named}
-use Rattle.workspace_lists.specs.Held.{IsGeneratorOf, workspace_over}
+use Rattle.workspace_lists.specs.Held.{AreHeld, Lists, trees_in}
 use Rattle.workspace_lists.specs.Names.{knows}
 use Rattle.session_undo.specs.Meanings.{IsMeaningOf, generator, meaning_over}
 use Rattle.session_undo.specs.declared.edit.Edit.{Edit}
 use Rattle.session_undo.specs.declared.edit.Edit.TheVariants as edit
-
--- the generators and the stored diagrams of a workspace
-pub record Lists : Type 0 where
-  pub generators : List Generator
-  pub diagrams : List Named
-
--- the workspace of trees
-abbrev pub trees_in : Contents → Lists → Workspace
-trees_in c l = workspace_over c l.generators l.diagrams
 
 -- what an edit makes of the lists
 abbrev pub edited : Lists → Edit → Lists
@@ -100,13 +91,13 @@ abbrev pub diagrams_put : List Edit → ℕ
 diagrams_put [] = 0
 diagrams_put (e ∷ es) = diagrams_put_by e + diagrams_put es
 
--- the second edit takes the first one back
-abbrev pub AreOpposite : Edit → Edit → Type 0
-AreOpposite edit.TakeGenerator (edit.PutGenerator g m) = Unit {0}
-AreOpposite (edit.PutGenerator g m) edit.TakeGenerator = Unit {0}
-AreOpposite (edit.TakeDiagram place) (edit.PutDiagram at d) = Unit {0}
-AreOpposite (edit.PutDiagram place d) (edit.TakeDiagram at) = Unit {0}
-AreOpposite e other = ⊥
+-- One edit puts and the other takes, and both do so with a generator or both with a diagram. Nothing is said of which one.
+abbrev pub AreOfOppositeKinds : Edit → Edit → Type 0
+AreOfOppositeKinds edit.TakeGenerator (edit.PutGenerator g m) = Unit {0}
+AreOfOppositeKinds (edit.PutGenerator g m) edit.TakeGenerator = Unit {0}
+AreOfOppositeKinds (edit.TakeDiagram place) (edit.PutDiagram at d) = Unit {0}
+AreOfOppositeKinds (edit.PutDiagram place d) (edit.TakeDiagram at) = Unit {0}
+AreOfOppositeKinds e other = ⊥
 
 -- ---- lists of a session
 
@@ -114,11 +105,6 @@ AreOpposite e other = ⊥
 pub record AreKnown (names : Names) (l : Lists) : Type 0 where
   pub generators : All (λ g. knows names g.name ≡ true) l.generators
   pub diagrams : All (λ d. knows names d.name ≡ true) l.diagrams
-
--- the ids are of the store
-pub record AreHeld (c : Contents) (l : Lists) : Type 0 where
-  pub generators : All (IsGeneratorOf c) l.generators
-  pub diagrams : All (λ d. IsDiagramOf c d.root) l.diagrams
 
 -- Each workspace of a session is one by the rule.
 pub record IsGoodAt (c : Contents) (names : Names) (l : Lists) : Type 0 where

@@ -1,5 +1,5 @@
 -- What the names of a workspace stand for, and that a table says so.
-use Rattle.std.specs.Prelude.{◌≡◌, ℕ, List, false, bytes_eq, Option, Some, None}
+use Rattle.std.specs.Prelude.{◌≡◌, ℕ, List, Option, Some, None}
 use Rattle.diagram_terms.specs.Tree.{Tree}
 use Rattle.hashcons.specs.Contents.{Contents, IsDiagramOf, diagram_at}
 use Rattle.workspace_json.specs.Workspaces.{Workspace, diagram_named, type_named}
@@ -38,9 +38,3 @@ IsMeaningOf c (meaning.Diagram d) = IsDiagramOf c d
 pub record Tell (c : Contents) (W : Workspace) (names : Names) : Type 0 where
   pub of_store : (name : List ℕ) → IsMeaningOf c (meaning_in names name)
   pub means : (name : List ℕ) → meaning_over c (meaning_in names name) ≡ stands_for W name
-
--- A workspace has one name more than another, and this name stands there for something.
-pub record Gains (less more : Workspace) (name : List ℕ) (here : Stands) : Type 0 where
-  pub before : stands_for less name ≡ free
-  pub now : stands_for more name ≡ here
-  pub others : (other : List ℕ) → bytes_eq other name ≡ false → stands_for more other ≡ stands_for less other

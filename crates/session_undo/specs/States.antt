@@ -21,7 +21,8 @@ use Rattle.session_undo.specs.declared.entries.Entries.{Entries}
 use Rattle.session_undo.specs.declared.state.State.{State}
 use Rattle.session_undo.specs.declared.stop.Stop.{Stop}
 use Rattle.session_undo.specs.declared.stop.Stop.TheVariants as stop
-use Rattle.session_undo.specs.Edits.{AllFit, AreKnown, Fits, IsGoodAt, LeadsBack, LeadsForth, Lists, diagrams_put, diagrams_put_by, edited, generators_put, trees_in, turns}
+use Rattle.workspace_lists.specs.Held.{Lists, trees_in}
+use Rattle.session_undo.specs.Edits.{AllFit, AreKnown, Fits, IsGoodAt, LeadsBack, LeadsForth, diagrams_put, diagrams_put_by, edited, generators_put, turns}
 use Rattle.session_undo.specs.Meanings.{Tell}
 
 abbrev pub lists_of : Entries → Lists

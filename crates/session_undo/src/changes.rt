@@ -1,19 +1,16 @@
 use crate::edit::Edit;
-use crate::lookups::copy_of;
 use crate::state::State;
 use crate::stop::Stop;
 use boundary_paths::{source, target};
-use diagram_terms::{Side, Text};
+use diagram_terms::{GREATEST_DIM, Side, Text};
 use hashcons::{AnyId, DiagramId};
 use workspace_json::{Refusal, Reply, Word};
 use workspace_lists::Named;
 
-/// The largest dimension of a diagram.
-const MAX_DIM: usize = 6;
-
 /// The commands that store or drop a diagram.
 impl State {
     ghost use Rattle.std.specs.Prelude.{◌≡◌, ◌≤◌, ◌<◌, length, Ok, IfSome, IfNone, None, Some};
+    ghost use Rattle.diagram_terms.specs.declared.limits.TheConstants.{GREATEST_DIM};
     ghost use Rattle.diagram_terms.specs.Dimension.{dimension_of};
     ghost use Rattle.hashcons.specs.Contents.{Grows, IsDiagramOf, diagram_at};
     ghost use Rattle.workspace_json.specs.Sessions.{change};
@@ -26,7 +23,7 @@ impl State {
         requires state { IsState self.old }
         requires of_store { IsDiagramOf self.old.store root }
         requires new { new_name (present_of self.old) name.now ≡ Ok tt }
-        requires low { dimension_of (diagram_at self.old.store root) ≤ 6 }
+        requires low { dimension_of (diagram_at self.old.store root) ≤ GREATEST_DIM }
         ensures state { IsState self.new }
         ensures grows { Grows self.old.store self.new.store }
         ensures comes { ComesTo
@@ -38,10 +35,10 @@ impl State {
         let reply = Reply::Stored {
             dim: self.store.dim(AnyId::Diagram(root)) as u8,
             length: self.store.length(root),
-            name: copy_of(alloc, name)?,
+            name: name.copy(alloc)?,
             word,
         };
-        let name = copy_of(alloc, name)?;
+        let name = name.copy(alloc)?;
         self.make_room(name.as_str())?;
         let place = self.entries.workspace.diagrams.len();
         self.accept(Edit::PutDiagram {
@@ -62,7 +59,7 @@ impl State {
     {
         self.new_name(name)?;
         let d = self.find(of)?;
-        if self.store.dim(AnyId::Diagram(d)) >= MAX_DIM {
+        if self.store.dim(AnyId::Diagram(d)) >= GREATEST_DIM {
             return Err(Stop::Refused(Refusal::DimLimit));
         }
         let root = self.identity_of(d)?;
@@ -108,7 +105,7 @@ impl State {
             (session_of self.old) (session_of self.new) result }
     {
         let alloc = self.store.allocator();
-        let copy = copy_of(alloc, name)?;
+        let copy = name.copy(alloc)?;
         let Some(place) = self.place_of(name) else {
             return Err(Stop::Refused(Refusal::Unknown { name: copy }));
         };

@@ -45,10 +45,8 @@ impl State {
         ensures { Answers (λ reply. reply) (slice_answer (present_of self.now) of.now path.now) result }
     {
         let d = self.find(of)?;
-        match slice(&self.store, d, path) {
-            Ok(found) => Ok(printed(&self.store, found)?),
-            Err(fault) => Err(Stop::Refused(Refusal::NoHeight { step: fault.step })),
-        }
+        let found = slice(&self.store, d, path)?;
+        Ok(printed(&self.store, found)?)
     }
 
     /// Whether two terms are one diagram.

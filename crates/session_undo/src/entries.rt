@@ -12,7 +12,7 @@ impl Entries {
     ghost use Rattle.std.specs.Prelude.{◌≡◌, ◌<◌, ◌≤◌, ℕ, List, length, true, vec_capacity};
     ghost use Rattle.hashcons.specs.Contents.{Contents};
     ghost use Rattle.workspace_lists.specs.Names.{knows};
-    ghost use Rattle.session_undo.specs.Edits.{AreKnown, AreOpposite, IsWithin, edited};
+    ghost use Rattle.session_undo.specs.Edits.{AreKnown, AreOfOppositeKinds, IsWithin, edited};
     ghost use Rattle.session_undo.specs.EditSteps.{HasRoomFor, KeepsTelling};
     ghost use Rattle.session_undo.specs.States.{lists_of};
 
@@ -23,7 +23,7 @@ impl Entries {
         requires known_before { AreKnown self.old.names (lists_of self.old) }
         requires known_after { AreKnown self.old.names (edited (lists_of self.old) edit) }
         ensures lists { lists_of self.new ≡ edited (lists_of self.old) edit }
-        ensures opposite { AreOpposite edit result }
+        ensures opposite { AreOfOppositeKinds edit result }
         ensures within { IsWithin (lists_of self.new) result }
         ensures back { edited (lists_of self.new) result ≡ lists_of self.old }
         ensures names { (c : Contents) → KeepsTelling c self.old self.new edit result }
@@ -43,7 +43,7 @@ impl Entries {
         requires within { 0 < length self.old.workspace.generators.items }
         requires known { AreKnown self.old.names (lists_of self.old) }
         ensures lists { lists_of self.new ≡ edited (lists_of self.old) Edit.TakeGenerator }
-        ensures opposite { AreOpposite Edit.TakeGenerator result }
+        ensures opposite { AreOfOppositeKinds Edit.TakeGenerator result }
         ensures within { IsWithin (lists_of self.new) result }
         ensures back { edited (lists_of self.new) result ≡ lists_of self.old }
         ensures names { (c : Contents) → KeepsTelling c self.old self.new Edit.TakeGenerator result }
@@ -75,7 +75,7 @@ impl Entries {
         requires within { place < length self.old.workspace.diagrams.items }
         requires known { AreKnown self.old.names (lists_of self.old) }
         ensures lists { lists_of self.new ≡ edited (lists_of self.old) (Edit.TakeDiagram place) }
-        ensures opposite { AreOpposite (Edit.TakeDiagram place) result }
+        ensures opposite { AreOfOppositeKinds (Edit.TakeDiagram place) result }
         ensures within { IsWithin (lists_of self.new) result }
         ensures back { edited (lists_of self.new) result ≡ lists_of self.old }
         ensures names { (c : Contents) → KeepsTelling c self.old self.new (Edit.TakeDiagram place) result }

@@ -1,18 +1,17 @@
 ghost use Rattle.std.specs.Prelude.{◌≡◌, ◌≤◌, ◌<◌, ◌∷◌, ◌++◌, [], OnErr, OnOk, IfOk, length};
-ghost use Rattle.hashcons.specs.Contents.{Grows, IsStore, IsDiagramOf, diagram_at};
-ghost use Rattle.diagram_terms.specs.GeneratorTypes.{label_of, type_of_generator};
+ghost use Rattle.hashcons.specs.Made.{Makes};
+ghost use Rattle.diagram_terms.specs.GeneratorTypes.{type_of_generator};
 ghost use Rattle.typecheck.specs.Outcomes.{add_outcome};
 ghost use Rattle.typecheck.specs.Signatures.{IsBoundaryOf, IsGoodOver, entry_of, generator_in, generators_of};
-ghost use Rattle.session_undo.specs.Added.{IsAdded, stop_of};
+ghost use Rattle.session_undo.specs.Added.{IsAdded};
 
 use crate::edit::Edit;
-use crate::lookups::copy_of;
 use crate::state::State;
 use crate::stop::Stop;
 use diagram_terms::{Label, Text};
-use hashcons::{DiagramId, Store};
+use hashcons::{AnyId, DiagramId, Store};
 use typecheck::{AddRefusal, Signature};
-use workspace_json::{Refusal, Reply};
+use workspace_json::Reply;
 use workspace_lists::{Generator, Meaning};
 
 /// A generator that a signature got: its label and its type.
@@ -33,36 +32,19 @@ fn add_generator(
     ensures exact { IsAdded (add_outcome (generators_of store.old signature.old) (generator_in store.old boundary)) result }
     ensures added { OnOk result
         (signature.new.entries ≡ signature.old.entries ++ entry_of store.old boundary ∷ []) }
-    ensures of_store { IfOk result (λ a. IsDiagramOf store.new a.type_of) }
-    ensures tree { IfOk result (λ a. diagram_at store.new a.type_of
-        ≡ type_of_generator (length signature.old.entries) (generator_in store.old boundary)) }
+    ensures made { Makes (λ a. AnyId.Diagram a.type_of) store.old store.new
+        (type_of_generator (length signature.old.entries) (generator_in store.old boundary)) result }
     ensures unchanged { OnErr result (signature.new.entries ≡ signature.old.entries) }
     ensures spare { OnErr result (signature.old.spare ≤ signature.new.spare) }
     ensures good { IsGoodOver store.new signature.new }
-    ensures grows { Grows store.old store.new }
 {
-    let alloc = store.allocator();
-    let label = signature.add(alloc, store, boundary)?;
-    match signature.generator_type(alloc, store, label.number as usize) {
+    let label = signature.add(store, boundary)?;
+    match signature.generator_type(store, label.number as usize) {
         Ok(type_of) => Ok(Added { label, type_of }),
         Err(error) => {
             signature.remove_last();
             Err(AddRefusal::from(error))
         }
-    }
-}
-
-/// Why a command that adds a generator goes no further.
-fn stop_of(refusal: AddRefusal) -> Stop
-    ensures { result ≡ stop_of refusal }
-{
-    match refusal {
-        AddRefusal::DimDiffers => Stop::Refused(Refusal::DimDiffers),
-        AddRefusal::NotParallel => Stop::Refused(Refusal::NotParallel),
-        AddRefusal::DimLimit => Stop::Refused(Refusal::DimLimit),
-        AddRefusal::CountLimit => Stop::Refused(Refusal::CountLimit),
-        AddRefusal::IllTyped(fault) => Stop::Refused(Refusal::IllTyped(fault)),
-        AddRefusal::NoMemory => Stop::NoMemory,
     }
 }
 
@@ -93,8 +75,8 @@ impl State {
         let boundary = self.find_boundary(source, target)?;
         self.make_room(name.as_str())?;
         let alloc = self.store.allocator();
-        let own = copy_of(alloc, name)?;
-        let said = copy_of(alloc, name)?;
+        let own = name.copy(alloc)?;
+        let said = name.copy(alloc)?;
         self.add_new(own, said, &boundary)
     }
 
@@ -117,10 +99,7 @@ impl State {
             → ComesTo (change (session_of self.old) (generator_change (present_of self.old) name source target))
             (session_of self.old) (session_of self.new) result }
     {
-        let added = match add_generator(&mut self.store, &mut self.signature, *boundary) {
-            Ok(added) => added,
-            Err(refusal) => return Err(stop_of(refusal)),
-        };
+        let added = add_generator(&mut self.store, &mut self.signature, *boundary)?;
         let Label { dim, number } = added.label;
         self.accept(Edit::PutGenerator {
             generator: Generator {

@@ -13,3 +13,4 @@ mod state;
 mod stop;
 
 pub use session::{NothingToRedo, NothingToUndo, Session};
+pub use workspace_lists::{Generator, Named, Stats, Workspace};

@@ -1,20 +1,12 @@
-ghost use Rattle.std.specs.Prelude.{◌≡◌, IfOk};
-
 use crate::state::State;
 use crate::stop::Stop;
 use boundary_paths::identity_diagram;
 use diagram_terms::Text;
 use hashcons::DiagramId;
-use std::alloc::{AllocError, Global};
+use std::alloc::AllocError;
 use typecheck::Verdict;
 use workspace_json::{Refusal, is_good_name};
 use workspace_lists::Meaning;
-
-pub(crate) fn copy_of(alloc: Global, text: &Text) -> Result<Text, AllocError>
-    ensures { IfOk result (λ copy. copy ≡ text.now) }
-{
-    Ok(Text::from_string(String::from_str(alloc, text.as_str())?))
-}
 
 /// The tests that several commands make, each of which leaves the session as it is.
 impl State {
@@ -23,6 +15,7 @@ impl State {
     ghost use Rattle.diagram_terms.specs.ConeTrees.{identity_diagram_tree};
     ghost use Rattle.diagram_terms.specs.Typing.{IsWellTyped};
     ghost use Rattle.hashcons.specs.Contents.{IsDiagramOf, diagram_at};
+    ghost use Rattle.hashcons.specs.Made.{MakesDiagram};
     ghost use Rattle.workspace_json.specs.Steps.{known, new_name, well_typed};
     ghost use Rattle.workspace_json.specs.Workspaces.{generators_of};
     ghost use Rattle.session_undo.specs.States.{Answers, IsState, Stays, present_of};
@@ -48,7 +41,7 @@ impl State {
         ensures of_store { IfOk result (λ d. IsDiagramOf self.now.store d) }
     {
         let Some(d) = self.term(name.as_str()) else {
-            let name = copy_of(self.store.allocator(), name)?;
+            let name = name.copy(self.store.allocator())?;
             return Err(Stop::Refused(Refusal::Unknown { name }));
         };
         Ok(d)
@@ -63,8 +56,7 @@ impl State {
         ensures answer { Answers (λ _. tt) (well_typed (present_of self.old) (diagram_at self.old.store d)) result }
         ensures typed { OnOk result (IsWellTyped (generators_of (present_of self.old)) (diagram_at self.old.store d)) }
     {
-        let alloc = self.store.allocator();
-        match self.signature.check(alloc, &mut self.store, d)? {
+        match self.signature.check(&mut self.store, d)? {
             Verdict::Yes => Ok(()),
             Verdict::No(fault) => Err(Stop::Refused(Refusal::IllTyped(fault))),
         }
@@ -76,9 +68,8 @@ impl State {
         requires of_store { IsDiagramOf self.old.store d }
         ensures state { IsState self.new }
         ensures stays { Stays self.old self.new }
-        ensures of_store { IfOk result (λ e. IsDiagramOf self.new.store e) }
-        ensures tree { IfOk result (λ e.
-            diagram_at self.new.store e ≡ identity_diagram_tree (diagram_at self.old.store d)) }
+        ensures made { MakesDiagram self.old.store self.new.store
+            (identity_diagram_tree (diagram_at self.old.store d)) result }
     {
         let alloc = self.store.allocator();
         identity_diagram(alloc, &mut self.store, d)

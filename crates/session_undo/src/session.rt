@@ -4,7 +4,7 @@ use hashcons::Store;
 use std::alloc::{AllocError, Global};
 use std::marker::Model;
 use workspace_json::{Command, Refusal, Reply};
-use workspace_lists::{Counts, Workspace, stats};
+use workspace_lists::{Stats, Workspace, stats};
 
 /// No change is left to be undone.
 #[derive(Clone, Copy, Debug, PartialEq, Eq)]
@@ -87,7 +87,7 @@ impl Session {
     }
 
     /// Takes the last accepted change back. It takes no memory.
-    #[tactic(auto, using(crate::proofs::SessionLemmas::redo_after_undo, crate::proofs::SessionLemmas::session_rule))]
+    #[tactic(auto, using(crate::proofs::UndoneAndRedone::redo_after_undo, crate::proofs::UndoneAndRedone::session_rule))]
     pub fn undo(&mut self) -> Result<(), NothingToUndo>
         ensures undone { MatchResult result (λ _. undone self.old.session ≡ Some self.new.session)
             (λ _. (undone self.old.session ≡ None) × (self.new.session ≡ self.old.session)) }
@@ -103,7 +103,7 @@ impl Session {
     }
 
     /// Makes the change that was taken back last again. It takes no memory.
-    #[tactic(auto, using(crate::proofs::SessionLemmas::undo_after_redo, crate::proofs::SessionLemmas::session_rule))]
+    #[tactic(auto, using(crate::proofs::UndoneAndRedone::undo_after_redo, crate::proofs::UndoneAndRedone::session_rule))]
     pub fn redo(&mut self) -> Result<(), NothingToRedo>
         ensures redone { MatchResult result (λ _. redone self.old.session ≡ Some self.new.session)
             (λ _. (redone self.old.session ≡ None) × (self.new.session ≡ self.old.session)) }
@@ -128,7 +128,7 @@ impl Session {
     }
 
     /// What the workspace holds, in numbers.
-    pub fn stats(&self) -> Result<Counts, AllocError>
+    pub fn stats(&self) -> Result<Stats, AllocError>
         ensures { IfOk result (λ s. stats_of self.now.session.present
             ≡ Reply.Stats s.arrows s.diagrams s.generators s.maps s.named) }
     {

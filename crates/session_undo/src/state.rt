@@ -23,7 +23,8 @@ impl State {
     ghost use Rattle.workspace_json.specs.Sessions.{new_session, undone, redone};
     ghost use Rattle.workspace_json.specs.Workspaces.{term};
     ghost use Rattle.workspace_lists.specs.Names.{knows};
-    ghost use Rattle.session_undo.specs.Edits.{edited, trees_in};
+    ghost use Rattle.workspace_lists.specs.Held.{trees_in};
+    ghost use Rattle.session_undo.specs.Edits.{edited};
     ghost use Rattle.session_undo.specs.States.{CanAccept, HasRoomForEdit, HasRoomForOne, IsState, Stays, lists_of, session_of};
 
     /// Nothing. It takes no memory.

@@ -21,6 +21,7 @@ use Rattle.hashcons.specs.Contents.{Contents, IsDiagramOf, diagram_at}
 use Rattle.zigzag_maps.specs.Found.{IsValidDiagram}
 use Rattle.diagram_terms.specs.ConeTrees.{type_tree, HasLabelsBelowTree}
 use Rattle.plain_maps.specs.Plainness.{IsPlainDiagramTree}
+use Rattle.plain_maps.specs.ValidPlain.{IsValidPlain}
 use Rattle.diagram_terms.specs.GeneratorTypes.{label_of, type_of_generator}
 use Rattle.typecheck.specs.Signatures.{Entry, AreEndsOf, AreGoodOver, IsBoundaryOf, no_entry, generator_in, generators_in}
 use Rattle.typecheck.proofs.GoodSignatures.{good_boundary_at, generator_at}
@@ -100,8 +101,11 @@ valid_end generators c d l h = record {
 }
 
 plain_end : (generators : List Generator) (t : Tree) → IsWellTyped generators t → IsPlainDiagramTree t
-unfolding IsPlainDiagramTree
+unfolding on_diagram
 plain_end generators t h = h.typed.plain
+
+valid_plain_end : (generators : List Generator) (c : Contents) (d : ℕ) → IsDiagramOf c d → IsWellTyped generators (diagram_at c d) → IsValidPlain c d
+valid_plain_end generators c d l h = record { valid = valid_end generators c d l h; plain = plain_end generators (diagram_at c d) h }
 
 labels_end : (generators : List Generator) (t : Tree) (n : ℕ) → dimension_of t < n → IsWellTyped generators t → HasLabelsBelowTree n t
 unfolding HasLabelsBelowTree on_diagram
@@ -110,10 +114,8 @@ labels_end generators t n l h = labels_below (dimension_of t) n l (dimension_of 
 -- ---- what the type over the ends asks, where the label has dimension n
 
 pub record CanBeEnds (c : Contents) (s t n : ℕ) : Type 0 where
-  pub source_valid : IsValidDiagram c s
-  pub target_valid : IsValidDiagram c t
-  pub source_plain : IsPlainDiagramTree (diagram_at c s)
-  pub target_plain : IsPlainDiagramTree (diagram_at c t)
+  pub source : IsValidPlain c s
+  pub target : IsValidPlain c t
   pub source_labels : HasLabelsBelowTree n (diagram_at c s)
   pub target_labels : HasLabelsBelowTree n (diagram_at c t)
   pub parallel : AreParallel (diagram_at c s) (diagram_at c t)
@@ -122,10 +124,8 @@ ends_by : (generators : List Generator) (c : Contents) (s t n : ℕ) → AreEnds
     → IsGoodBoundary generators (diagram_at c s) (diagram_at c t) → CanBeEnds c s t n
 ends_by generators c s t n of e h =
     let same = h.parallel.dims in record {
-      source_valid = valid_end generators c s of.source h.source;
-      target_valid = valid_end generators c t of.target h.target;
-      source_plain = plain_end generators (diagram_at c s) h.source;
-      target_plain = plain_end generators (diagram_at c t) h.target;
+      source = valid_plain_end generators c s of.source h.source;
+      target = valid_plain_end generators c t of.target h.target;
       source_labels = labels_end generators (diagram_at c s) n (omega arith) h.source;
       target_labels = labels_end generators (diagram_at c t) n (omega arith) h.target;
       parallel = h.parallel;

@@ -1,10 +1,11 @@
 -- The fields of a signature, and what callers see of it.
 use Rattle.std.proofs.Common.{◌≡◌, ℕ, ◌≤◌, List, [], ◌∷◌, ◌++◌, length, get_or, map, Option, None, sym, ap, ◌∙◌, arith, vec_len, vec_capacity}
 use Rattle.typecheck.specs.declared.signature.Signature.TheInside.{Inside}
+use Rattle.diagram_terms.specs.declared.limits.TheConstants.{MAX_GENERATORS}
 use Rattle.hashcons.specs.Contents.{Contents}
 use Rattle.typecheck.specs.Points.{HaveDims}
 use Rattle.typecheck.specs.Signatures.{Entry, SignatureState, entries_of, entry_at, room, generators_in, AreGoodOver}
-use Rattle.typecheck.proofs.EntryLemmas.{length-entries_of, entries_of-push, boundary_at, dim_at, dims-entries_of}
+use Rattle.typecheck.proofs.SideBySide.{length-entries_of, entries_of-push, boundary_at, dim_at, dims-entries_of}
 use Rattle.typecheck.proofs.GoodSignatures.{have_dims}
 
 -- the fields as they are seen
@@ -15,7 +16,7 @@ seen s = record {
 }
 
 abbrev pub AreInStep : Inside → Type 0
-AreInStep s = (vec_len s.boundaries ≡ vec_len s.dims) × (vec_len s.boundaries ≤ 60000)
+AreInStep s = (vec_len s.boundaries ≡ vec_len s.dims) × (vec_len s.boundaries ≤ MAX_GENERATORS)
 
 module _ (s : Inside) (v : SignatureState) (is : seen s ≡ v) (in_step : AreInStep s) where
   pub same_length : length s.boundaries.items ≡ length s.dims.items
@@ -26,7 +27,7 @@ module _ (s : Inside) (v : SignatureState) (is : seen s ≡ v) (in_step : AreInS
       s.boundaries.ok.0 ∙ sym (length-entries_of s.boundaries.items s.dims.items same_length)
       ∙ ap (λ (u : SignatureState). length u.entries) is
 
-  pub few : length v.entries ≤ 60000
+  pub few : length v.entries ≤ MAX_GENERATORS
   few = let k = count in let l = in_step.1 in omega arith
 
   pub boundary_is : (i : ℕ) → get_or s.boundaries.items i None ≡ (entry_at v i).boundary

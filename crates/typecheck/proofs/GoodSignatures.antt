@@ -1,6 +1,7 @@
 -- Good signatures: over a store that grows, without the last generators, and with one generator more.
 use Rattle.std.proofs.Common.{◌≡◌, ℕ, zero, suc, ◌<◌, ◌≤◌, ◌+◌, ◌⊎◌, inl, inr, List, [], ◌∷◌, ◌++◌, length, get_or, map, take, Option, None, Some, refl, sym, ap, subst, ◌∙◌, arith, length-append}
 use Rattle.std.proofs.lemmas.List.{get_or-take, length-take, take-append-le, take_at, take-map, get_or-map, get_or_append_left, get_or_push, length-map, map-append}
+use Rattle.diagram_terms.specs.declared.limits.TheConstants.{MAX_GENERATORS}
 use Rattle.diagram_terms.specs.Typing.{Generator, generator_dim, IsGoodGenerator, IsGoodSignature, IsGoodBoundary}
 use Rattle.hashcons.specs.Contents.{Contents, Grows, diagram_at}
 use Rattle.typecheck.specs.Points.{HaveDims}
@@ -104,7 +105,7 @@ good_signature-push gs g h p = record {
         (subst (IsGoodGenerator gs) (sym (get_or_push gs g None i e)) p)
 
 pub good-push : (c : Contents) (es : List Entry) (e : Entry) → AreGoodOver c es → IsEntryOver c e
-    → IsGoodGenerator (generators_in c es) (generator_in c e.boundary) → length es < 60000 → AreGoodOver c (es ++ e ∷ [])
+    → IsGoodGenerator (generators_in c es) (generator_in c e.boundary) → length es < MAX_GENERATORS → AreGoodOver c (es ++ e ∷ [])
 good-push c es e h right good few = record {
   right = λ i l. by i (last_or_before i (length es) (let k = length-append es (e ∷ []) in omega arith));
   good = subst IsGoodSignature (sym (map-append (λ (x : Entry). generator_in c x.boundary) es (e ∷ [])))
@@ -130,7 +131,7 @@ good_boundary_at c es i s t h l e =
     let within : i < length (generators_in c es) = rw length-map l in
     subst (IsGoodGenerator (take i (generators_in c es))) (generator_at c es i l ∙ ap (generator_in c) e) (h.good.good i within)
 
--- ---- for callers
+-- ---- no generators
 
 -- a signature with no generators is good
 pub good_none : (c : Contents) (es : List Entry) → es ≡ [] → AreGoodOver c es
@@ -139,5 +140,3 @@ good_none c es e = subst (AreGoodOver c) (sym e) (record {
   good = record { good = λ i l. absurd (omega arith) };
   few = omega arith;
 })
-
-pub ruleset signatures = (good_none, good-kept, good-take)

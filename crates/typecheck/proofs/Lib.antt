@@ -1,9 +1,10 @@
+pub mod AddAnswers
 pub mod Ends
-pub mod EntryLemmas
 pub mod FaultSteps
 pub mod Fields
+pub mod ForCallers
 pub mod GoodSignatures
-pub mod OutcomeLemmas
 pub mod PointFaults
 pub mod PointVisits
+pub mod SideBySide
 pub mod WellTypedness

@@ -1,5 +1,6 @@
 -- The faults of points in order, by the generators' dimensions; and where there is none.
 use Rattle.std.proofs.Common.{◌≡◌, ℕ, List, [], ◌∷◌, Bool, true, false, not, ◌&&◌, cond, ◌↔◌, All, Option, option_map, slice_get, None, Some, refl, sym, ap, ◌∙◌}
+use Rattle.std.specs.Prelude.{◌==◌}
 use Rattle.std.proofs.lemmas.Bool.{cond-true, cond-false}
 use Rattle.std.proofs.lemmas.List.Elements.{All-nil, All-cons, All-head, All-tail}
 use Rattle.std.proofs.lemmas.Option.{none-some, slice_get-map}
@@ -9,40 +10,50 @@ use Rattle.diagram_terms.specs.declared.place.Fault.TheVariants as fault
 use Rattle.diagram_terms.specs.Points.{Point}
 use Rattle.diagram_terms.specs.Typing.{Generator, generator_dim, has_dim, is_generator, has_type, point_fault, first_of, first_point_fault}
 use Rattle.typecheck.specs.Points.{HaveDims}
-use Rattle.typecheck.specs.Walk.{is_dim, is_known, first_failing, fault_over}
+use Rattle.typecheck.specs.Walk.{first_failing, fault_over}
 
 -- ---- by the generators' dimensions
+
+-- the dimension is there, and it is n
+abbrev is_dim : ℕ → Option ℕ → Bool
+is_dim n None = false
+is_dim n (Some m) = m == n
 
 is_dim-dim : (n : ℕ) (g : Option Generator) → is_dim n (option_map generator_dim g) ≡ has_dim n g
 is_dim-dim n None = refl
 is_dim-dim n (Some g) = refl
 
 -- the dimensions tell which labels are generators'
-pub known_generator : (generators : List Generator) (dims : List ℕ) → HaveDims generators dims → (x : Label) → is_known dims x ≡ is_generator generators x
-known_generator generators dims h x =
+by_dims : (generators : List Generator) (dims : List ℕ) → HaveDims generators dims → (x : Label) → is_dim x.dim (slice_get dims x.number) ≡ is_generator generators x
+by_dims generators dims h x =
     ap (λ (ds : List ℕ). is_dim x.dim (slice_get ds x.number)) (sym h)
     ∙ ap (is_dim x.dim) (slice_get-map generator_dim generators x.number)
     ∙ is_dim-dim x.dim (slice_get generators x.number)
 
-module _ (dims : List ℕ) (p : Point) (rest : Option Fault) (found : Option Point) (later : rest ≡ fault_over dims found) where
+module _ (generators : List Generator) (dims : List ℕ) (h : HaveDims generators dims) (x : Label) (n : ℕ) (at : n ≡ x.number) where
+  pub told_by_dim : (m : ℕ) → slice_get dims n ≡ Some m → (m == x.dim) ≡ is_generator generators x
+  told_by_dim m e = sym (ap (is_dim x.dim) (ap (slice_get dims) (sym at) ∙ e)) ∙ by_dims generators dims h x
+
+  pub told_by_none : slice_get dims n ≡ None → false ≡ is_generator generators x
+  told_by_none e = sym (ap (is_dim x.dim) (ap (slice_get dims) (sym at) ∙ e)) ∙ by_dims generators dims h x
+
+module _ (generators : List Generator) (p : Point) (rest : Option Fault) (found : Option Point) (later : rest ≡ fault_over generators found) where
   -- the fault at p, with what the two tests of it say
-  one_more : (k m : Bool) → is_known dims p.label ≡ k
+  one_more : (k m : Bool) → is_generator generators p.label ≡ k
       → first_of (cond k (cond m None (Some (fault.TypeAt p.heights))) (Some (fault.LabelAt p.heights))) rest
-      ≡ fault_over dims (cond (not (k && m)) (Some p) found)
+      ≡ fault_over generators (cond (not (k && m)) (Some p) found)
   one_more true true e = later
-  one_more true false e = sym (cond-true (is_known dims p.label) (Some (fault.TypeAt p.heights)) (Some (fault.LabelAt p.heights)) e)
-  one_more false true e = sym (cond-false (is_known dims p.label) (Some (fault.TypeAt p.heights)) (Some (fault.LabelAt p.heights)) e)
-  one_more false false e = sym (cond-false (is_known dims p.label) (Some (fault.TypeAt p.heights)) (Some (fault.LabelAt p.heights)) e)
+  one_more true false e = sym (cond-true (is_generator generators p.label) (Some (fault.TypeAt p.heights)) (Some (fault.LabelAt p.heights)) e)
+  one_more false true e = sym (cond-false (is_generator generators p.label) (Some (fault.TypeAt p.heights)) (Some (fault.LabelAt p.heights)) e)
+  one_more false false e = sym (cond-false (is_generator generators p.label) (Some (fault.TypeAt p.heights)) (Some (fault.LabelAt p.heights)) e)
 
 -- the first point that fails tells the first fault
-pub first_fault_over : (generators : List Generator) (dims : List ℕ) → HaveDims generators dims → (n : ℕ) (ps : List Point)
-    → fault_over dims (first_failing dims n ps) ≡ first_point_fault generators n ps
-first_fault_over generators dims h n [] = refl
-first_fault_over generators dims h n (p ∷ ps) =
-    let known = known_generator generators dims h p.label in
-    ap (λ (k : Bool). fault_over dims (cond (not (k && has_type n p)) (Some p) (first_failing dims n ps))) known
-    ∙ sym (one_more dims p (first_point_fault generators n ps) (first_failing dims n ps) (sym (first_fault_over generators dims h n ps))
-    (is_generator generators p.label) (has_type n p) known)
+pub first_fault_over : (generators : List Generator) (n : ℕ) (ps : List Point)
+    → fault_over generators (first_failing generators n ps) ≡ first_point_fault generators n ps
+first_fault_over generators n [] = refl
+first_fault_over generators n (p ∷ ps) =
+    sym (one_more generators p (first_point_fault generators n ps) (first_failing generators n ps) (sym (first_fault_over generators n ps))
+    (is_generator generators p.label) (has_type n p) refl)
 
 -- ---- no fault
 

@@ -1,5 +1,6 @@
 -- What callers see of a signature, and which signatures are good over a store.
 use Rattle.std.specs.Prelude.{◌≡◌, ℕ, ◌<◌, ◌≤◌, ◌-◌, min, List, [], ◌∷◌, length, map, get_or, Option, Some, None}
+use Rattle.diagram_terms.specs.declared.limits.TheConstants.{GREATEST_DIM, MAX_GENERATORS}
 use Rattle.diagram_terms.specs.Typing.{Generator, generator_dim, IsGoodSignature}
 use Rattle.hashcons.specs.Contents.{Contents, IsDiagramOf, diagram_at}
 
@@ -57,13 +58,13 @@ entry_of c b = record { boundary = b; dim = generator_dim (generator_in c b) }
 pub record IsEntryOver (c : Contents) (e : Entry) : Type 0 where
   pub of_store : IsBoundaryOf c e.boundary
   pub dim : e.dim ≡ generator_dim (generator_in c e.boundary)
-  pub low : e.dim ≤ 6
+  pub low : e.dim ≤ GREATEST_DIM
 
--- each entry is right, the generators are a good signature, and there are at most 60,000
+-- each entry is right, the generators are a good signature, and they are not too many
 pub record AreGoodOver (c : Contents) (entries : List Entry) : Type 0 where
   pub right : (i : ℕ) → i < length entries → IsEntryOver c (get_or entries i no_entry)
   pub good : IsGoodSignature (generators_in c entries)
-  pub few : length entries ≤ 60000
+  pub few : length entries ≤ MAX_GENERATORS
 
 abbrev pub IsGoodOver : Contents → SignatureState → Type 0
 IsGoodOver c s = AreGoodOver c s.entries

@@ -13,6 +13,7 @@ impl Passed {
     ghost use Rattle.std.specs.Prelude.{◌≡◌, ℕ, List, IsTrue, None};
     ghost use Rattle.hashcons.specs.Contents.{Contents, diagram_at};
     ghost use Rattle.typecheck.specs.Passed.{HavePassed};
+    ghost use Rattle.typecheck.specs.Points.{OfAll};
     ghost use Rattle.typecheck.specs.Walk.{failing_in};
 
     pub(crate) fn new(alloc: Global) -> Passed
@@ -26,14 +27,14 @@ impl Passed {
     /// Whether `d` is kept.
     pub(crate) fn has(&self, d: DiagramId) -> bool
         ensures { (c : Contents) (dims : List ℕ) (n : ℕ) → HavePassed c dims n self.now
-            → IsTrue result → failing_in dims n (diagram_at c d) ≡ None }
+            → IsTrue result → OfAll dims (λ generators. failing_in generators n (diagram_at c d) ≡ None) }
     {
         self.diagrams.contains(&d)
     }
 
     pub(crate) fn keep(&mut self, d: DiagramId) -> Result<(), AllocError>
         ensures { (c : Contents) (dims : List ℕ) (n : ℕ) → HavePassed c dims n self.old
-            → failing_in dims n (diagram_at c d) ≡ None → HavePassed c dims n self.new }
+            → OfAll dims (λ generators. failing_in generators n (diagram_at c d) ≡ None) → HavePassed c dims n self.new }
     {
         self.diagrams.insert(d)?;
         Ok(())

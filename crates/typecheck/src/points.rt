@@ -1,13 +1,12 @@
-ghost use Rattle.std.specs.Prelude.{◌≡◌, ◌-◌, ◌<◌, ◌≤◌, List, IfOk, length, option_map};
+ghost use Rattle.std.specs.Prelude.{◌≡◌, ◌-◌, ◌<◌, ◌≤◌, IfOk, length, option_map};
 ghost use Rattle.diagram_terms.specs.Points.{point_inside};
 ghost use Rattle.diagram_terms.specs.Tree.{sings};
-ghost use Rattle.diagram_terms.specs.Typing.{Generator};
+ghost use Rattle.diagram_terms.specs.Typing.{first_point_fault_in, is_generator};
 ghost use Rattle.hashcons.specs.Contents.{IsDiagramOf, IsStore, diagram_at};
 ghost use Rattle.zigzag_maps.specs.Validity.{IsDiagramAt};
 ghost use Rattle.typecheck.specs.Passed.{HavePassed};
-ghost use Rattle.diagram_terms.specs.Typing.{first_point_fault_in};
-ghost use Rattle.typecheck.specs.Points.{HaveDims};
-ghost use Rattle.typecheck.specs.Walk.{is_known, may_stand, failing_in, failing_at_reg, failing_at_sing, point_of, fault_over};
+ghost use Rattle.typecheck.specs.Points.{Finds, OfAll};
+ghost use Rattle.typecheck.specs.Walk.{may_stand, failing_in, failing_at_reg, failing_at_sing, point_of, fault_over};
 
 use crate::passed::Passed;
 use diagram_terms::{Fault, Height, Items, Label};
@@ -40,8 +39,8 @@ pub(crate) fn first_failing_point(
     d: DiagramId,
 ) -> Result<Option<Fault>, AllocError>
     requires of_store { IsDiagramOf store.now d }
-    ensures { IfOk result (λ fault. (generators : List Generator) → HaveDims generators dims.now
-        → fault ≡ first_point_fault_in generators (diagram_at store.now d)) }
+    ensures { IfOk result (λ fault. OfAll dims.now (λ generators.
+        fault ≡ first_point_fault_in generators (diagram_at store.now d))) }
 {
     let outer = store.dim(AnyId::Diagram(d));
     let test = PointTest { dims, outer };
@@ -63,8 +62,8 @@ fn failing_point(
     requires diagram { IsDiagramAt store.now dim d }
     requires passed { HavePassed store.now test.now.dims.now test.now.outer passed.old }
     requires store { IsStore store.now }
-    ensures exact { IfOk result (λ found. option_map point_of found
-        ≡ failing_in test.now.dims.now test.now.outer (diagram_at store.now d)) }
+    ensures exact { IfOk result (λ found. Finds test.now.dims.now found (λ generators.
+        failing_in generators test.now.outer (diagram_at store.now d))) }
     ensures passed { HavePassed store.now test.now.dims.now test.now.outer passed.new }
 {
     if passed.has(d) {
@@ -90,8 +89,8 @@ fn failing_by_height(
     requires diagram { IsDiagramAt store.now dim d }
     requires passed { HavePassed store.now test.now.dims.now test.now.outer passed.old }
     requires store { IsStore store.now }
-    ensures exact { IfOk result (λ found. option_map point_of found
-        ≡ failing_in test.now.dims.now test.now.outer (diagram_at store.now d)) }
+    ensures exact { IfOk result (λ found. Finds test.now.dims.now found (λ generators.
+        failing_in generators test.now.outer (diagram_at store.now d))) }
     ensures passed { HavePassed store.now test.now.dims.now test.now.outer passed.new }
 {
     if dim == 0 {
@@ -125,8 +124,8 @@ fn failing_over_reg(
     requires within { j ≤ length (sings (diagram_at store.now d)) }
     requires passed { HavePassed store.now test.now.dims.now test.now.outer passed.old }
     requires store { IsStore store.now }
-    ensures exact { IfOk result (λ found. option_map point_of found
-        ≡ failing_at_reg test.now.dims.now test.now.outer (diagram_at store.now d) j) }
+    ensures exact { IfOk result (λ found. Finds test.now.dims.now found (λ generators.
+        failing_at_reg generators test.now.outer (diagram_at store.now d) j)) }
     ensures passed { HavePassed store.now test.now.dims.now test.now.outer passed.new }
 {
     let slice = store.reg(d, j);
@@ -150,8 +149,8 @@ fn failing_over_sing(
     requires within { i < length (sings (diagram_at store.now d)) }
     requires passed { HavePassed store.now test.now.dims.now test.now.outer passed.old }
     requires store { IsStore store.now }
-    ensures exact { IfOk result (λ found. option_map point_of found
-        ≡ failing_at_sing test.now.dims.now test.now.outer (diagram_at store.now d) i) }
+    ensures exact { IfOk result (λ found. Finds test.now.dims.now found (λ generators.
+        failing_at_sing generators test.now.outer (diagram_at store.now d) i)) }
     ensures passed { HavePassed store.now test.now.dims.now test.now.outer passed.new }
 {
     let slice = store.sing(d, i);
@@ -167,8 +166,8 @@ fn failing_label(
     d: DiagramId,
 ) -> Option<FailingPoint>
     requires { IsDiagramAt store.now 0 d }
-    ensures { option_map point_of result
-        ≡ failing_in test.now.dims.now test.now.outer (diagram_at store.now d) }
+    ensures { Finds test.now.dims.now result (λ generators.
+        failing_in generators test.now.outer (diagram_at store.now d)) }
 {
     let label = store.label(d);
     if passes(test, label) {
@@ -203,14 +202,14 @@ fn found_inside(
 
 /// Whether a generator of its type stands at a point with this label.
 fn passes(test: &PointTest<'_>, label: Label) -> bool
-    ensures { result ≡ may_stand test.now.dims.now test.now.outer label }
+    ensures { OfAll test.now.dims.now (λ generators. result ≡ may_stand generators test.now.outer label) }
 {
     is_generator(test.dims, label) && usize::from(label.dim) <= test.outer
 }
 
 /// Whether the label is a generator's.
 fn is_generator(dims: &[u8], label: Label) -> bool
-    ensures { result ≡ is_known dims.now label }
+    ensures { OfAll dims.now (λ generators. result ≡ is_generator generators label) }
 {
     match dims.get(label.number as usize) {
         Some(dim) => *dim == label.dim,
@@ -220,7 +219,8 @@ fn is_generator(dims: &[u8], label: Label) -> bool
 
 /// What is wrong at the point that was found.
 fn fault_at(test: &PointTest<'_>, found: Option<FailingPoint>) -> Option<Fault>
-    ensures { result ≡ fault_over test.now.dims.now (option_map point_of found) }
+    ensures { OfAll test.now.dims.now (λ generators.
+        result ≡ fault_over generators (option_map point_of found)) }
 {
     let point = found?;
     if is_generator(test.dims, point.label) {

@@ -14,11 +14,11 @@ pub enum AddRefusal {
     /// The source and the target are not parallel.
     #[error("the source and the target are not parallel")]
     NotParallel,
-    /// The generator's dimension would be above 6.
-    #[error("the dimension is above 6")]
+    /// The generator's dimension would be above the greatest.
+    #[error("the dimension is above the limit")]
     DimLimit,
-    /// There are 60,000 generators.
-    #[error("there are 60000 generators")]
+    /// There are as many generators as there may be.
+    #[error("there are too many generators")]
     CountLimit,
     /// The source is not well typed, or else the target is not: its first fault.
     #[error("the source or the target is not well typed")]

@@ -1,22 +1,17 @@
-ghost use Rattle.std.specs.Prelude.{◌≡◌, ◌≤◌, IfOk, IfErr, OnOk};
+ghost use Rattle.std.specs.Prelude.{◌≡◌, ◌≤◌, IfOk, IfErr, OnOk, option_map};
+ghost use Rattle.diagram_terms.specs.declared.limits.TheConstants.{GREATEST_DIM};
+ghost use Rattle.diagram_terms.specs.Obstacles.{boundary_obstacle};
 ghost use Rattle.diagram_terms.specs.Typing.{generator_dim};
-ghost use Rattle.hashcons.specs.Contents.{IsStore};
-ghost use Rattle.typecheck.specs.Outcomes.{boundary_refusal};
+ghost use Rattle.typecheck.specs.Outcomes.{refusal_by};
 ghost use Rattle.typecheck.specs.Signatures.{IsBoundaryOf, generator_in};
 
 use crate::refusal::AddRefusal;
 use crate::verdict::{Verdict, first_fault};
 use boundary_paths::{parallel, type_over};
-use diagram_terms::Label;
+use diagram_terms::{GREATEST_DIM, Label, MAX_GENERATORS};
 use hashcons::{AnyId, DiagramId, DiagramNode, Store};
 use std::alloc::{AllocError, Global};
 use std::marker::Model;
-
-/// The largest dimension of a generator.
-const MAX_DIM: usize = 6;
-
-/// The largest number of generators.
-const MAX_GENERATORS: usize = 60_000;
 
 /// Generators, each over those before it. A generator is told by its source and its target, if it has
 /// any.
@@ -32,6 +27,7 @@ pub struct Signature {
 
 impl Model for Signature {
     ghost use Rattle.std.specs.Prelude.{◌≡◌, ◌≤◌, vec_len, vec_capacity};
+    ghost use Rattle.diagram_terms.specs.declared.limits.TheConstants.{MAX_GENERATORS};
     ghost use Rattle.typecheck.specs.Signatures.{SignatureState, entries_of, room};
 
     ghost Value = { SignatureState };
@@ -41,16 +37,18 @@ impl Model for Signature {
       spare = room (vec_len s.boundaries) (vec_capacity s.boundaries) (vec_capacity s.dims);
     } };
 
-    ghost invariant = { λ s. (vec_len s.boundaries ≡ vec_len s.dims) × (vec_len s.boundaries ≤ 60000) };
+    ghost invariant = { λ s. (vec_len s.boundaries ≡ vec_len s.dims) × (vec_len s.boundaries ≤ MAX_GENERATORS) };
 }
 
 impl Signature {
     ghost use Rattle.std.specs.Prelude.{◌≡◌, ◌↔◌, ◌<◌, ◌≤◌, ◌+◌, ◌-◌, [], ◌∷◌, ◌++◌, length, take, get_or, IfOk, OnErr, OnOk};
-    ghost use Rattle.diagram_terms.specs.Typing.{IsWellTyped};
-    ghost use Rattle.hashcons.specs.Contents.{Grows, IsDiagramOf, diagram_at};
-    ghost use Rattle.typecheck.specs.Outcomes.{IsAnswer, IsRefusal, add_outcome, end_refusal, typing_refusal};
-    ghost use Rattle.diagram_terms.specs.Typing.{first_fault_in};
+    ghost use Rattle.diagram_terms.specs.declared.limits.TheConstants.{MAX_GENERATORS};
     ghost use Rattle.diagram_terms.specs.GeneratorTypes.{type_of_generator};
+    ghost use Rattle.diagram_terms.specs.Obstacles.{end_obstacle, typing_obstacle};
+    ghost use Rattle.diagram_terms.specs.Typing.{IsWellTyped, first_fault_in};
+    ghost use Rattle.hashcons.specs.Contents.{Grows, IsDiagramOf, diagram_at};
+    ghost use Rattle.hashcons.specs.Made.{MakesDiagram};
+    ghost use Rattle.typecheck.specs.Outcomes.{IsAnswer, IsRefusal, add_outcome};
     ghost use Rattle.typecheck.specs.Signatures.{IsBoundaryOf, IsGoodOver, AreGoodOver, entry_at, entry_of, generator_in, generators_of};
     ghost use Rattle.typecheck.specs.Verdicts.{fault_in};
 
@@ -108,7 +106,6 @@ impl Signature {
     /// Adds a generator with this boundary, or without one, and answers its label.
     pub fn add(
         &mut self,
-        alloc: Global,
         store: &mut Store,
         boundary: Option<(DiagramId, DiagramId)>,
     ) -> Result<Label, AddRefusal>
@@ -123,8 +120,8 @@ impl Signature {
         ensures spare_after_err { OnErr result (self.old.spare ≤ self.new.spare) }
         ensures good { IsGoodOver store.new self.new }
         ensures grows { Grows store.old store.new }
-        ensures store { IsStore store.new }
     {
+        let alloc = store.allocator();
         let dim = allowed_dim(store, boundary)?;
         if self.len() >= MAX_GENERATORS {
             return Err(AddRefusal::CountLimit);
@@ -142,11 +139,9 @@ impl Signature {
     ) -> Result<(), AddRefusal>
         requires good { IsGoodOver store.old self.now }
         requires of_store { IsBoundaryOf store.old boundary }
-        requires store { IsStore store.old }
         ensures exact { IsRefusal
-            (typing_refusal (generators_of store.old self.now) (generator_in store.old boundary)) result }
+            (typing_obstacle (generators_of store.old self.now) (generator_in store.old boundary)) result }
         ensures grows { Grows store.old store.new }
-        ensures store { IsStore store.new }
     {
         let Some(ends) = boundary else {
             return Ok(());
@@ -160,9 +155,8 @@ impl Signature {
         requires good { IsGoodOver store.old self.now }
         requires of_store { IsDiagramOf store.old d }
         ensures exact { IsRefusal
-            (end_refusal (generators_of store.old self.now) (diagram_at store.old d)) result }
+            (end_obstacle (generators_of store.old self.now) (diagram_at store.old d)) result }
         ensures grows { Grows store.old store.new }
-        ensures store { IsStore store.new }
     {
         match first_fault(alloc, store, &self.dims, d)? {
             None => Ok(()),
@@ -176,7 +170,7 @@ impl Signature {
         boundary: Option<(DiagramId, DiagramId)>,
         dim: u8,
     ) -> Result<Label, AllocError>
-        requires { length self.old.entries < 60000 }
+        requires { length self.old.entries < MAX_GENERATORS }
         ensures label { IfOk result (λ x. x ≡ record { number = length self.old.entries; dim = dim }) }
         ensures added { OnOk result
             (self.new.entries ≡ self.old.entries ++ record { boundary = boundary; dim = dim } ∷ []) }
@@ -203,35 +197,22 @@ impl Signature {
     /// The type of a generator: its label alone, or the cones with its label over its source and its
     /// target.
     #[tactic(auto, using(diagram_terms::proofs::Dimensions::labels))]
-    pub fn generator_type(
-        &self,
-        alloc: Global,
-        store: &mut Store,
-        i: usize,
-    ) -> Result<DiagramId, AllocError>
+    pub fn generator_type(&self, store: &mut Store, i: usize) -> Result<DiagramId, AllocError>
         requires within { i < length self.now.entries }
         requires good { IsGoodOver store.old self.now }
-        ensures of_store { IfOk result (λ d. IsDiagramOf store.new d) }
-        ensures tree { IfOk result (λ d. diagram_at store.new d
-            ≡ type_of_generator i (get_or (generators_of store.old self.now) i None)) }
-        ensures grows { Grows store.old store.new }
-        ensures store { IsStore store.new }
+        ensures { MakesDiagram store.old store.new
+            (type_of_generator i (get_or (generators_of store.old self.now) i None)) result }
     {
         let label = self.label(i);
         let boundary = self.boundary(i);
         match boundary {
             None => store.put_diagram(DiagramNode::Zero(label)),
-            Some(ends) => type_over(alloc, store, ends.0, ends.1, label),
+            Some(ends) => type_over(store.allocator(), store, ends.0, ends.1, label),
         }
     }
 
     /// Whether a diagram is well typed over the generators, and else why not.
-    pub fn check(
-        &mut self,
-        alloc: Global,
-        store: &mut Store,
-        d: DiagramId,
-    ) -> Result<Verdict, AllocError>
+    pub fn check(&mut self, store: &mut Store, d: DiagramId) -> Result<Verdict, AllocError>
         requires good { IsGoodOver store.old self.old }
         requires of_store { IsDiagramOf store.old d }
         ensures exact { IfOk result (λ v. fault_in v
@@ -242,9 +223,8 @@ impl Signature {
         ensures spare { self.old.spare ≤ self.new.spare }
         ensures good { IsGoodOver store.new self.new }
         ensures grows { Grows store.old store.new }
-        ensures store { IsStore store.new }
     {
-        match first_fault(alloc, store, &self.dims, d)? {
+        match first_fault(store.allocator(), store, &self.dims, d)? {
             None => Ok(Verdict::Yes),
             Some(fault) => Ok(Verdict::No(fault)),
         }
@@ -254,7 +234,7 @@ impl Signature {
 /// The dimension of a generator with this boundary.
 fn dim_of(store: &Store, boundary: &Option<(DiagramId, DiagramId)>) -> u8
     requires of_store { IsBoundaryOf store.now boundary.now }
-    requires low { generator_dim (generator_in store.now boundary.now) ≤ 6 }
+    requires low { generator_dim (generator_in store.now boundary.now) ≤ GREATEST_DIM }
     ensures { result ≡ generator_dim (generator_in store.now boundary.now) }
 {
     match *boundary {
@@ -267,14 +247,12 @@ fn dim_of(store: &Store, boundary: &Option<(DiagramId, DiagramId)>) -> u8
 fn allowed_dim(store: &Store, boundary: Option<(DiagramId, DiagramId)>) -> Result<u8, AddRefusal>
     requires of_store { IsBoundaryOf store.now boundary }
     ensures dim { IfOk result (λ n. n ≡ generator_dim (generator_in store.now boundary)) }
-    ensures low { IfOk result (λ n. n ≤ 6) }
-    ensures allowed { OnOk result (boundary_refusal (generator_in store.now boundary) ≡ None) }
-    ensures refused { IfErr result (λ r. boundary_refusal (generator_in store.now boundary) ≡ Some r) }
-    ensures store { IsStore store.now }
+    ensures low { IfOk result (λ n. n ≤ GREATEST_DIM) }
+    ensures allowed { OnOk result (boundary_obstacle (generator_in store.now boundary) ≡ None) }
+    ensures refused { IfErr result (λ r.
+        option_map refusal_by (boundary_obstacle (generator_in store.now boundary)) ≡ Some r) }
 {
     let Some(ends) = boundary else {
-        // Nothing is asked of the store, but a call on it tells what is true of every store.
-        let _allocator = store.allocator();
         return Ok(0);
     };
     let (source, target) = ends;
@@ -285,7 +263,7 @@ fn allowed_dim(store: &Store, boundary: Option<(DiagramId, DiagramId)>) -> Resul
     if !parallel(store, source, target) {
         return Err(AddRefusal::NotParallel);
     }
-    if dim >= MAX_DIM {
+    if dim >= GREATEST_DIM {
         return Err(AddRefusal::DimLimit);
     }
     Ok(dim as u8 + 1)

@@ -1,8 +1,7 @@
-ghost use Rattle.std.specs.Prelude.{◌≡◌, List, IfOk};
-ghost use Rattle.diagram_terms.specs.Typing.{Generator};
-ghost use Rattle.hashcons.specs.Contents.{IsDiagramOf, Grows, IsStore, diagram_at};
+ghost use Rattle.std.specs.Prelude.{◌≡◌, IfOk};
+ghost use Rattle.hashcons.specs.Contents.{IsDiagramOf, Grows, diagram_at};
 ghost use Rattle.diagram_terms.specs.Typing.{first_fault_in};
-ghost use Rattle.typecheck.specs.Points.{HaveDims};
+ghost use Rattle.typecheck.specs.Points.{OfAll};
 
 use crate::points::first_failing_point;
 use diagram_terms::Fault;
@@ -27,11 +26,9 @@ pub(crate) fn first_fault(
     d: DiagramId,
 ) -> Result<Option<Fault>, AllocError>
     requires { IsDiagramOf store.old d }
-    ensures exact { IfOk result (λ fault. (generators : List Generator)
-        → HaveDims generators dims.now
-        → fault ≡ first_fault_in generators (diagram_at store.old d)) }
+    ensures exact { IfOk result (λ fault. OfAll dims.now (λ generators.
+        fault ≡ first_fault_in generators (diagram_at store.old d))) }
     ensures grows { Grows store.old store.new }
-    ensures store { IsStore store.new }
 {
     if let SquareTest::Fault(place) = valid(alloc, store, d)? {
         return Ok(Some(Fault::SquareAt(place)));

@@ -1,4 +1,4 @@
-pub mod HeldLemmas
-pub mod EntryLemmas
-pub mod CountLemmas
-pub mod Kept
+pub mod CountedNodes
+pub mod DocumentEntries
+pub mod ForCallers
+pub mod HeldRoots

@@ -2,12 +2,14 @@
 //! documents and counts.
 #![tactic(auto)]
 
+mod counts;
 mod names;
 mod printing;
 mod saved;
 mod workspace;
 
+pub use counts::Stats;
 pub use names::{Meaning, Names};
 pub use printing::printed;
-pub use saved::{Counts, document, stats};
+pub use saved::{document, stats};
 pub use workspace::{Generator, Named, Workspace};

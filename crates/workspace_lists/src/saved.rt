@@ -5,24 +5,12 @@ ghost use Rattle.workspace_json.specs.declared.reply.Reply.{Reply};
 ghost use Rattle.workspace_lists.specs.Held.{IsHeld, workspace_in};
 ghost use Rattle.workspace_lists.specs.Roots.{boundary_ids, diagram_ids, end_ids, ends_from, generator_at, is_diagram_node, named_at, root_ids};
 
+use crate::counts::Stats;
 use crate::workspace::{Generator, Named, Workspace};
-use diagram_terms::{Items, Node, Text};
+use diagram_terms::{Items, Node};
 use hashcons::{AnyId, DiagramId, Store};
 use std::alloc::{AllocError, Global};
 use workspace_json::{DiagramEntry, Document, GeneratorEntry};
-
-/// What a workspace holds, in numbers.
-#[derive(Clone, Copy, Debug, PartialEq, Eq)]
-pub struct Counts {
-    pub generators: usize,
-    /// The stored diagrams.
-    pub named: usize,
-    pub maps: usize,
-    /// The distinct diagrams among the subtrees of the workspace.
-    pub diagrams: usize,
-    /// The distinct arrows among them.
-    pub arrows: usize,
-}
 
 /// The document of a workspace. Each distinct subtree is looked at once.
 pub fn document(alloc: Global, store: &Store, workspace: &Workspace) -> Result<Document, AllocError>
@@ -44,7 +32,7 @@ pub fn document(alloc: Global, store: &Store, workspace: &Workspace) -> Result<D
 }
 
 /// What a workspace holds, in numbers. Each distinct subtree is looked at once.
-pub fn stats(alloc: Global, store: &Store, workspace: &Workspace) -> Result<Counts, AllocError>
+pub fn stats(alloc: Global, store: &Store, workspace: &Workspace) -> Result<Stats, AllocError>
     requires { IsHeld store.now workspace.now }
     ensures { IfOk result (λ s. stats_of (workspace_in store.now workspace.now)
         ≡ Reply.Stats s.arrows s.diagrams s.generators s.maps s.named) }
@@ -52,7 +40,7 @@ pub fn stats(alloc: Global, store: &Store, workspace: &Workspace) -> Result<Coun
     let roots = roots_of(alloc, workspace)?;
     let (nodes, _) = store.list(&roots)?;
     let diagrams = diagrams_among(&nodes);
-    Ok(Counts {
+    Ok(Stats {
         generators: workspace.generators.len(),
         named: workspace.diagrams.len(),
         maps: 0,
@@ -99,7 +87,7 @@ fn generator_entries(
     let mut entries = Vec::new(alloc);
     let mut at = 0;
     for generator in generators {
-        let name = copied(alloc, &generator.name)?;
+        let name = generator.name.copy(alloc)?;
         let boundary = places_from(generator.boundary, places, at);
         at += ends_in(generator.boundary);
         entries.push(GeneratorEntry { name, boundary })?;
@@ -144,19 +132,11 @@ fn diagram_entries(
 {
     let mut entries = Vec::new(alloc);
     for (i, diagram) in diagrams.iter().enumerate() {
-        let name = copied(alloc, &diagram.name)?;
+        let name = diagram.name.copy(alloc)?;
         let root = places[i];
         entries.push(DiagramEntry { name, root })?;
     }
     Ok(entries)
-}
-
-/// The same text again.
-fn copied(alloc: Global, text: &Text) -> Result<Text, AllocError>
-    ensures { IfOk result (λ copy. copy ≡ text.now) }
-{
-    let copy = String::from_str(alloc, text.as_str())?;
-    Ok(Text::from_string(copy))
 }
 
 /// How many of the nodes are diagrams, and not arrows.

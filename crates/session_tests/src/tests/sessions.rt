@@ -3,7 +3,7 @@ use std::alloc::Global;
 use std::process::Abort;
 use std::test::Fail;
 use workspace_json::{FormFault, read_command, reply_text};
-use workspace_lists::Counts;
+use workspace_lists::Stats;
 
 /// A command, and the reply to it.
 type Step = (&'static str, &'static str);
@@ -100,7 +100,7 @@ fn changes_and_reads(rt: HostRuntime) -> Result<(), Fail> {
     assert_eq!(rt; session.equal("loop", "f"), Some(false));
     assert_eq!(rt; session.equal("loop", "loop"), Some(true));
     assert_eq!(rt; session.equal("loop", "end"), None);
-    let counts = Counts {
+    let counts = Stats {
         generators: 3,
         named: 1,
         maps: 0,

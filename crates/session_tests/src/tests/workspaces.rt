@@ -10,7 +10,7 @@ use hashcons::{AnyId, DiagramId, Store};
 use std::alloc::{AllocError, Global};
 use std::test::Fail;
 use workspace_json::document_text;
-use workspace_lists::{Counts, Generator, Meaning, Named, Names, Workspace, document, stats};
+use workspace_lists::{Generator, Meaning, Named, Names, Stats, Workspace, document, stats};
 
 const X: Label = Label { number: 0, dim: 0 };
 
@@ -38,7 +38,7 @@ fn type_nodes(alloc: Global) -> Result<Vec<Node>, AllocError>
 }
 
 /// The diagram at a place of ids of a store, if it is one of this dimension.
-#[tactic(auto, using(workspace_lists::proofs::Kept::diagram_found))]
+#[tactic(auto, using(workspace_lists::proofs::ForCallers::diagram_found))]
 fn diagram_in(store: &Store, ids: &[AnyId], at: usize, dim: usize) -> Option<DiagramId>
     requires { AreOf store.now ids.now }
     ensures of_store { IfSome result (λ d. IsDiagramOf store.now d) }
@@ -125,7 +125,7 @@ fn writes_and_counts(rt: HostRuntime) -> Result<(), Fail> {
     let text =
         "{\"diagrams\":[{\"name\":\"d\",\"root\":3}],\"format\":1,\"generators\":[{\"name\":\"x\"},{\"name\":\"f\",\"source\":0,\"target\":0}],\"maps\":[],\"nodes\":[{\"label\":[0,0]},{\"label\":[1,1]},{\"labels\":[[0,0],[1,1]]},{\"bwds\":[2],\"fwds\":[2],\"regs\":[0,0],\"sings\":[1]}]}";
     assert!(rt; bytes.as_slice() == text.as_bytes());
-    let counts = Counts {
+    let counts = Stats {
         generators: 2,
         named: 1,
         maps: 0,

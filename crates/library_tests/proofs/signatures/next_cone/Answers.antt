@@ -19,15 +19,14 @@ cone-requires c =
     let stands = ap (λ (es : List Entry). get_or es i no_entry) added ∙ get_or_push was entry no_entry i at_end in
     let ends = ends_at c.add.new.store c.add.new.self.entries i d d c.label-label.result c.add.ensures.good within c.label-label.ensures
     (ap (λ (e : Entry). e.boundary) stands) in record {
-      valid = ends.source_valid;
-      plain = ends.source_plain;
+      diagram = ends.source;
       labels = ends.source_labels;
     }
 
 pub returns-in_err-cone-clause-good : goal.returns-in_err-cone-clause-good
 returns-in_err-cone-clause-good c =
-    good-kept c.add.new.store c.cone.new.store c.add.new.self.entries c.cone.ensures.grows c.add.ensures.good
+    good-kept c.add.new.store c.cone.new.store c.add.new.self.entries c.cone.ensures.made.grows c.add.ensures.good
 
 pub returns-clause-good : goal.returns-clause-good
 returns-clause-good c =
-    good-kept c.add.new.store c.cone.new.store c.add.new.self.entries c.cone.ensures.grows c.add.ensures.good
+    good-kept c.add.new.store c.cone.new.store c.add.new.self.entries c.cone.ensures.made.grows c.add.ensures.good

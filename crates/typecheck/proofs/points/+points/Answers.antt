@@ -12,33 +12,33 @@ failing_by_height-loop-i-init t c =
     let u = diagram_at c.args.store.now c.args.d in
     record {
       passed = c.requires.passed;
-      rest = visit_start c.args.test.now.dims.now c.args.test.now.outer c.args.dim u (omega arith) c.requires.diagram.shape;
+      rest = λ generators h. visit_start generators c.args.test.now.outer c.args.dim u (omega arith) c.requires.diagram.shape;
     }
 
 pub failing_by_height-returns-in-Some-clause-exact : goal.failing_by_height-returns-in-Some-clause-exact
-failing_by_height-returns-in-Some-clause-exact t c =
+failing_by_height-returns-in-Some-clause-exact t c = λ generators h.
     let u = diagram_at c.args.store.now c.args.d in
-    visit_reg c.args.test.now.dims.now c.args.test.now.outer u c.loop-i.i (omega arith) (point_of c.in-Some.point)
-    (sym (ap (option_map point_of) c.in-Some.is) ∙ c.in_ok-point.ensures.exact)
-    ∙ c.loop-i.invariant.rest
+    visit_reg generators c.args.test.now.outer u c.loop-i.i (omega arith) (point_of c.in-Some.point)
+    (sym (ap (option_map point_of) c.in-Some.is) ∙ c.in_ok-point.ensures.exact generators h)
+    ∙ c.loop-i.invariant.rest generators h
 
 pub failing_by_height-returns-in-Some-2-clause-exact : goal.failing_by_height-returns-in-Some-2-clause-exact
-failing_by_height-returns-in-Some-2-clause-exact t c =
+failing_by_height-returns-in-Some-2-clause-exact t c = λ generators h.
     let u = diagram_at c.args.store.now c.args.d in
-    visit_sing c.args.test.now.dims.now c.args.test.now.outer u c.loop-i.i (omega arith)
-    (sym (ap (option_map point_of) c.in_default.is) ∙ c.in_ok-point.ensures.exact) (point_of c.in-Some-2.point)
-    (sym (ap (option_map point_of) c.in-Some-2.is) ∙ c.in_ok-point-2.ensures.exact)
-    ∙ c.loop-i.invariant.rest
+    visit_sing generators c.args.test.now.outer u c.loop-i.i (omega arith)
+    (sym (ap (option_map point_of) c.in_default.is) ∙ c.in_ok-point.ensures.exact generators h) (point_of c.in-Some-2.point)
+    (sym (ap (option_map point_of) c.in-Some-2.is) ∙ c.in_ok-point-2.ensures.exact generators h)
+    ∙ c.loop-i.invariant.rest generators h
 
 pub failing_by_height-loop-i-preserved : goal.failing_by_height-loop-i-preserved
 failing_by_height-loop-i-preserved t c =
     let u = diagram_at c.args.store.now c.args.d in
     record {
       passed = c.in_ok-point-2.ensures.passed;
-      rest = visit_passes c.args.test.now.dims.now c.args.test.now.outer u c.loop-i.i (omega arith)
-          (sym (ap (option_map point_of) c.in_default.is) ∙ c.in_ok-point.ensures.exact)
-          (sym (ap (option_map point_of) c.in_default-2.is) ∙ c.in_ok-point-2.ensures.exact)
-          ∙ c.loop-i.invariant.rest;
+      rest = λ generators h. visit_passes generators c.args.test.now.outer u c.loop-i.i (omega arith)
+          (sym (ap (option_map point_of) c.in_default.is) ∙ c.in_ok-point.ensures.exact generators h)
+          (sym (ap (option_map point_of) c.in_default-2.is) ∙ c.in_ok-point-2.ensures.exact generators h)
+          ∙ c.loop-i.invariant.rest generators h;
     }
 
 -- ---- slices

@@ -1,6 +1,7 @@
 use Rattle.std.proofs.Common.{◌≡◌, ◌+◌, ◌*◌}
 use Rattle.hashcons.specs.Contents.{diagram_at}
 use Rattle.typecheck.specs.Passed.{HavePassed}
+use Rattle.typecheck.specs.Points.{OfAll}
 use Rattle.typecheck.specs.Walk.{failing_in}
 use Rattle.typecheck.proofs.PointVisits.{failing_later}
 use Rattle.typecheck.proofs.points.+points.Given as goal
@@ -20,5 +21,5 @@ decreases-failing_over_sing l = 3 * l.dim
 abbrev pub invariant-failing_by_height-loop-i : goal.invariant-failing_by_height-loop-i
 invariant-failing_by_height-loop-i l = record {
   passed : HavePassed l.store l.test.dims.now l.test.outer l.passed;
-  rest : failing_later l.test.dims.now l.test.outer (diagram_at l.store l.d) l.i ≡ failing_in l.test.dims.now l.test.outer (diagram_at l.store l.d);
+  rest : OfAll l.test.dims.now (λ generators. failing_later generators l.test.outer (diagram_at l.store l.d) l.i ≡ failing_in generators l.test.outer (diagram_at l.store l.d));
 }

@@ -9,12 +9,12 @@ pub label-label-requires-clause-zero : goal.label-label-requires-clause-zero
 label-label-requires-clause-zero c = diagram_dimension 0 (diagram_at c.args.store.now c.args.d) c.requires.shape
 
 pub returns-then-passes : goal.returns-then-passes
-returns-then-passes c =
-    label_passes c.args.test.now.dims.now c.args.test.now.outer (diagram_at c.args.store.now c.args.d) c.label-label.result c.requires.shape c.label-label.ensures
-    (sym c.passes.ensures ∙ c.if-passes.true)
+returns-then-passes c = λ generators h.
+    label_passes generators c.args.test.now.outer (diagram_at c.args.store.now c.args.d) c.label-label.result c.requires.shape c.label-label.ensures
+    (sym (c.passes.ensures generators h) ∙ c.if-passes.true)
 
 pub returns : goal.returns
-returns c =
+returns c = λ generators h.
     ap (λ (hs : List Height). Some (record { heights = hs; label = c.label-label.result })) c.new.ensures
-    ∙ label_fails c.args.test.now.dims.now c.args.test.now.outer (diagram_at c.args.store.now c.args.d) c.label-label.result c.requires.shape c.label-label.ensures
-    (sym c.passes.ensures ∙ c.if-passes.false)
+    ∙ label_fails generators c.args.test.now.outer (diagram_at c.args.store.now c.args.d) c.label-label.result c.requires.shape c.label-label.ensures
+    (sym (c.passes.ensures generators h) ∙ c.if-passes.false)

@@ -6,5 +6,5 @@ use Rattle.typecheck.proofs.points.first_failing_point.Goals as goal
 
 pub returns : goal.returns
 returns c = λ generators h.
-    c.fault_at.ensures ∙ ap (fault_over c.args.dims.now) c.in_ok-found.ensures.exact
-    ∙ point_tells generators c.args.dims.now h c.dim-outer.result (diagram_at c.args.store.now c.args.d) c.dim-outer.ensures.dim
+    c.fault_at.ensures generators h ∙ ap (fault_over generators) (c.in_ok-found.ensures.exact generators h)
+    ∙ point_tells generators c.dim-outer.result (diagram_at c.args.store.now c.args.d) c.dim-outer.ensures.dim

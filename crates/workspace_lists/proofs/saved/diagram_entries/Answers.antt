@@ -1,5 +1,5 @@
 use Rattle.std.proofs.Common.{refl}
-use Rattle.workspace_lists.proofs.EntryLemmas.{named-more}
+use Rattle.workspace_lists.proofs.DocumentEntries.{named-more}
 use Rattle.workspace_lists.proofs.saved.diagram_entries.Goals as goal
 
 pub loop-i-preserved : goal.loop-i-preserved

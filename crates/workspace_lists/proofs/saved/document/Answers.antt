@@ -1,7 +1,7 @@
 use Rattle.std.proofs.Common.{◌≡◌, ◌-◌, ◌∙◌, length, ap, sym, arith}
 use Rattle.workspace_lists.specs.Roots.{end_ids}
-use Rattle.workspace_lists.proofs.EntryLemmas.{document-over, ends-length, ends-places, tops-length, tops-places}
-use Rattle.workspace_lists.proofs.HeldLemmas.{roots-of_store}
+use Rattle.workspace_lists.proofs.DocumentEntries.{document-over, ends-length, ends-places, tops-length, tops-places}
+use Rattle.workspace_lists.proofs.HeldRoots.{roots-of_store}
 use Rattle.workspace_lists.proofs.saved.document.Goals as goal
 
 pub list-requires : goal.list-requires

@@ -1,5 +1,5 @@
 use Rattle.std.proofs.Common.{arith}
-use Rattle.workspace_lists.proofs.EntryLemmas.{ends-within, generators-more, start-more}
+use Rattle.workspace_lists.proofs.DocumentEntries.{ends-within, generators-more, start-more}
 use Rattle.workspace_lists.proofs.saved.generator_entries.Goals as goal
 
 pub places_from-boundary-requires : goal.places_from-boundary-requires

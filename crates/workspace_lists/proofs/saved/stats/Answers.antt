@@ -1,8 +1,8 @@
 use Rattle.std.proofs.Common.{◌∙◌, ap}
 use Rattle.std.specs.Prelude.{count_by}
 use Rattle.workspace_lists.specs.Roots.{is_diagram_node}
-use Rattle.workspace_lists.proofs.CountLemmas.{stats-over}
-use Rattle.workspace_lists.proofs.HeldLemmas.{roots-of_store}
+use Rattle.workspace_lists.proofs.CountedNodes.{stats-over}
+use Rattle.workspace_lists.proofs.HeldRoots.{roots-of_store}
 use Rattle.workspace_lists.proofs.saved.stats.Goals as goal
 
 pub list-requires : goal.list-requires

@@ -6,4 +6,4 @@ check-requires-clause-of_store g c = c.add-refused.ensures.grows.diagrams c.in_o
 
 pub check-requires-2-clause-good : goal.check-requires-2-clause-good
 check-requires-2-clause-good g c =
-    good-kept c.check.new.store c.put_diagram.new.self c.check.new.self.entries c.put_diagram.ensures.grows c.check.ensures.good
+    good-kept c.check.new.store c.put_diagram.new.self c.check.new.self.entries c.put_diagram.ensures.made.grows c.check.ensures.good

@@ -1,6 +1,6 @@
 use Rattle.std.proofs.Common.{sym, subst}
 use Rattle.hashcons.specs.Listing.{AreOf}
-use Rattle.workspace_lists.proofs.Kept.{gathered-of_store}
+use Rattle.workspace_lists.proofs.ForCallers.{gathered-of_store}
 use Rattle.session_tests.proofs.tests.workspaces.writes_and_counts.Goals as goal
 
 pub diagram_in-requires : goal.diagram_in-requires

@@ -3,10 +3,11 @@ use Rattle.workspace_lists.specs.declared.workspace.Named.{Named}
 use Rattle.workspace_lists.specs.Names.{knows}
 use Rattle.session_undo.specs.declared.edit.Edit.{Edit}
 use Rattle.session_undo.specs.declared.edit.Edit.TheVariants as edit
-use Rattle.session_undo.specs.Edits.{AreKnown, IsWithin, Lists, edited}
+use Rattle.workspace_lists.specs.Held.{Lists}
+use Rattle.session_undo.specs.Edits.{AreKnown, IsWithin, edited}
 use Rattle.session_undo.specs.States.{lists_of}
-use Rattle.session_undo.proofs.EditLemmas.{all_put, remove-insert}
-use Rattle.session_undo.proofs.MeaningLemmas.{generators_at}
+use Rattle.session_undo.proofs.EditsBack.{all_put, remove-insert}
+use Rattle.session_undo.proofs.ToldMeanings.{generators_at}
 use Rattle.session_undo.proofs.entries.Entries.make.Goals as goal
 
 pub put_diagram-requires-clause-known : goal.put_diagram-requires-clause-known

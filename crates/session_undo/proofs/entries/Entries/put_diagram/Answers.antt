@@ -4,10 +4,10 @@ use Rattle.hashcons.specs.Contents.{IsDiagramOf}
 use Rattle.workspace_json.specs.Workspaces.{IsWorkspace}
 use Rattle.workspace_lists.specs.declared.names.Meaning.TheVariants as meaning
 use Rattle.workspace_lists.specs.declared.workspace.Named.{Named}
-use Rattle.session_undo.specs.Edits.{trees_in}
+use Rattle.workspace_lists.specs.Held.{trees_in}
 use Rattle.session_undo.specs.Meanings.{Tell}
-use Rattle.session_undo.proofs.EditLemmas.{all_put}
-use Rattle.session_undo.proofs.MeaningLemmas.{at, tell_put_diagram, Replaces, generators_at}
+use Rattle.session_undo.proofs.EditsBack.{all_put}
+use Rattle.session_undo.proofs.ToldMeanings.{at, tell_put_diagram, Replaces, generators_at}
 use Rattle.session_undo.proofs.entries.Entries.put_diagram.Goals as goal
 
 pub returns-clause-names : goal.returns-clause-names

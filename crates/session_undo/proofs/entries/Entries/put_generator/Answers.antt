@@ -1,9 +1,9 @@
 use Rattle.std.proofs.Common.{◌≡◌, ◌∙◌, ◌++◌, ◌∷◌, [], List, subst, sym, ap, cond}
 use Rattle.workspace_json.specs.Workspaces.{IsWorkspace}
 use Rattle.workspace_lists.specs.declared.workspace.Generator.{Generator}
-use Rattle.session_undo.specs.Edits.{trees_in}
+use Rattle.workspace_lists.specs.Held.{trees_in}
 use Rattle.session_undo.specs.Meanings.{Tell}
-use Rattle.session_undo.proofs.MeaningLemmas.{at, tell_put_generator, Replaces}
+use Rattle.session_undo.proofs.ToldMeanings.{at, tell_put_generator, Replaces}
 use Rattle.session_undo.proofs.entries.Entries.put_generator.Goals as goal
 
 pub returns-clause-names : goal.returns-clause-names

@@ -6,10 +6,10 @@ use Rattle.workspace_json.specs.Workspaces.{IsWorkspace}
 use Rattle.workspace_lists.specs.declared.names.Meaning.TheVariants as meaning
 use Rattle.workspace_lists.specs.declared.workspace.Named.{Named}
 use Rattle.workspace_lists.specs.Names.{knows}
-use Rattle.session_undo.specs.Edits.{trees_in}
+use Rattle.workspace_lists.specs.Held.{trees_in}
 use Rattle.session_undo.specs.Meanings.{Tell}
-use Rattle.session_undo.proofs.EditLemmas.{insert-remove}
-use Rattle.session_undo.proofs.MeaningLemmas.{at, tell_take_diagram, Replaces, generators_at}
+use Rattle.session_undo.proofs.EditsBack.{insert-remove}
+use Rattle.session_undo.proofs.ToldMeanings.{at, tell_take_diagram, Replaces, generators_at}
 use Rattle.session_undo.proofs.entries.Entries.take_diagram.Goals as goal
 
 -- the diagram that went is put back

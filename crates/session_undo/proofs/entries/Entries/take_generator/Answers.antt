@@ -5,10 +5,11 @@ use Rattle.workspace_lists.specs.declared.names.Meaning.{Meaning}
 use Rattle.workspace_lists.specs.declared.names.Meaning.TheVariants as meaning
 use Rattle.workspace_lists.specs.declared.workspace.Generator.{Generator}
 use Rattle.workspace_lists.specs.Names.{knows, meaning_in}
-use Rattle.session_undo.specs.Edits.{IsTypeOf, trees_in}
+use Rattle.workspace_lists.specs.Held.{trees_in}
+use Rattle.session_undo.specs.Edits.{IsTypeOf}
 use Rattle.session_undo.specs.Meanings.{Tell}
-use Rattle.session_undo.proofs.EditLemmas.{all_last}
-use Rattle.session_undo.proofs.MeaningLemmas.{at, tell_take_generator, taken_generator, type_was_there, Replaces, generators_at}
+use Rattle.session_undo.proofs.EditsBack.{all_last}
+use Rattle.session_undo.proofs.ToldMeanings.{at, tell_take_generator, taken_generator, type_was_there, Replaces, generators_at}
 use Rattle.session_undo.proofs.entries.Entries.take_generator.Goals as goal
 
 pub replace-meaning-requires : goal.replace-meaning-requires

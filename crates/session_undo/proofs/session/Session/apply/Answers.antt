@@ -1,4 +1,4 @@
-use Rattle.session_undo.proofs.SessionLemmas.{session_rule}
+use Rattle.session_undo.proofs.UndoneAndRedone.{session_rule}
 use Rattle.session_undo.proofs.session.Session.apply.Goals as goal
 
 pub returns-clause-rule : goal.returns-clause-rule

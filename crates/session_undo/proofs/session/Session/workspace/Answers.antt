@@ -1,7 +1,7 @@
 use Rattle.std.proofs.Common.{subst}
 use Rattle.workspace_json.specs.Sessions.{IsSession}
 use Rattle.session_undo.specs.Views.{SessionView}
-use Rattle.session_undo.proofs.SessionLemmas.{session_rule}
+use Rattle.session_undo.proofs.UndoneAndRedone.{session_rule}
 use Rattle.session_undo.proofs.session.Session.workspace.Goals as goal
 
 pub returns-clause-rule : goal.returns-clause-rule

@@ -1,10 +1,11 @@
 use Rattle.std.proofs.Common.{◌≡◌, ℕ, ◌+◌, ◌≤◌, ◌∙◌, ◌++◌, ◌∷◌, [], List, length, true, All, subst, sym, ap, arith}
 use Rattle.std.proofs.lemmas.List.{length_push}
 use Rattle.session_undo.specs.declared.edit.Edit.{Edit}
-use Rattle.session_undo.specs.Edits.{Lists, diagrams_put, diagrams_put_by, edited, generators_put, put_by}
+use Rattle.workspace_lists.specs.Held.{Lists}
+use Rattle.session_undo.specs.Edits.{diagrams_put, diagrams_put_by, edited, generators_put, put_by}
 use Rattle.session_undo.specs.States.{IsHistory, entries_over, lists_of, session_over}
-use Rattle.session_undo.proofs.HistoryLemmas.{balanced, diagrams_put-push, opposite_back, back_puts_no_generator, session_anew, turned_anew}
-use Rattle.session_undo.proofs.StateLemmas.{forth_length, room_for, told}
+use Rattle.session_undo.proofs.Histories.{balanced, diagrams_put-push, opposite_back, back_puts_no_generator, session_anew, turned_anew}
+use Rattle.session_undo.proofs.StateInvariant.{forth_length, room_for, told}
 use Rattle.session_undo.proofs.state.State.accept.Goals as goal
 
 pub make-back-requires : goal.make-back-requires

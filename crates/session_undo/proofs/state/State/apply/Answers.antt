@@ -2,7 +2,7 @@ use Rattle.std.proofs.Common.{sym}
 use Rattle.workspace_json.specs.Sessions.{step}
 use Rattle.workspace_json.specs.Steps.{equal_answer, save_answer, slice_answer, stats_answer}
 use Rattle.session_undo.specs.States.{present_of, session_of}
-use Rattle.session_undo.proofs.CommandLemmas.{read_comes}
+use Rattle.session_undo.proofs.TestedCommands.{read_comes}
 use Rattle.session_undo.proofs.state.State.apply.Goals as goal
 
 pub returns-in-Generator-clause-comes : goal.returns-in-Generator-clause-comes

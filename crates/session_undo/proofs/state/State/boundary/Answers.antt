@@ -2,6 +2,7 @@ use Rattle.std.proofs.Common.{◌≡◌, ◌≤◌, ◌<◌, ◌∙◌, suc, Boo
 use Rattle.std.specs.Prelude.{nat_lt}
 use Rattle.std.proofs.lemmas.Bool.Decides.{nat_tests}
 use Rattle.std.proofs.lemmas.Result.{err_from_is_err_and}
+use Rattle.diagram_terms.specs.declared.limits.TheConstants.{GREATEST_DIM}
 use Rattle.diagram_terms.specs.Dimension.{IsDiagramTree, dimension_of}
 use Rattle.diagram_terms.specs.Shape.{IsDiagram}
 use Rattle.diagram_terms.specs.Tree.{Tree}
@@ -10,7 +11,7 @@ use Rattle.workspace_json.specs.Sessions.{Session, change}
 use Rattle.workspace_json.specs.declared.reply.Word.TheVariants as word
 use Rattle.workspace_json.specs.Steps.{end_of, known, new_name, stored}
 use Rattle.session_undo.specs.States.{present_of, session_of}
-use Rattle.session_undo.proofs.CommandLemmas.{boundary_tested, boundary_unknown, boundary_unnamed, comes_by, stopped}
+use Rattle.session_undo.proofs.TestedCommands.{boundary_tested, boundary_unknown, boundary_unnamed, comes_by, stopped}
 use Rattle.session_undo.proofs.LowTerms.{end_dimension, term_is_low}
 use Rattle.session_undo.proofs.state.State.boundary.Goals as goal
 
@@ -38,7 +39,7 @@ pub store_diagram-requires-clause-low : goal.store_diagram-requires-clause-low
 store_diagram-requires-clause-low c =
     let s = c.args.self.now in
     let t = diagram_at s.store c.in_ok-d.d in
-    let low : dimension_of t ≤ 6 = term_is_low (present_of s) c.requires.history.present.rule c.args.of.now t c.in_ok-d.ensures.answer in
+    let low : dimension_of t ≤ GREATEST_DIM = term_is_low (present_of s) c.requires.history.present.rule c.args.of.now t c.in_ok-d.ensures.answer in
     let k = c.dim.ensures.dim in
     let h = c.if-dim-eq0.false in
     let shape : IsDiagramTree t = subst (λ n. IsDiagram n t) k c.dim.ensures.shape in

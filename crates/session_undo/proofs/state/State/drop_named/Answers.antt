@@ -6,11 +6,11 @@ use Rattle.workspace_json.specs.declared.reply.Word.TheVariants as word
 use Rattle.workspace_json.specs.Sessions.{Stepped, change}
 use Rattle.workspace_json.specs.Workspaces.{Workspace, diagram_named, without_diagram}
 use Rattle.workspace_lists.specs.declared.workspace.Named.{Named}
-use Rattle.session_undo.specs.Edits.{Lists}
+use Rattle.workspace_lists.specs.Held.{Lists}
 use Rattle.session_undo.specs.States.{lists_of, present_of, session_of}
-use Rattle.session_undo.proofs.ChangeLemmas.{accepted}
-use Rattle.session_undo.proofs.CommandLemmas.{drop_known, drop_unknown}
-use Rattle.session_undo.proofs.DropLemmas.{can_take_diagram, dropped_in, dropped_tree, not_stored, room_to_take_diagram, was_stored}
+use Rattle.session_undo.proofs.StoredDiagrams.{accepted}
+use Rattle.session_undo.proofs.TestedCommands.{drop_known, drop_unknown}
+use Rattle.session_undo.proofs.DroppedDiagrams.{can_take_diagram, dropped_in, dropped_tree, not_stored, room_to_take_diagram, was_stored}
 use Rattle.session_undo.proofs.state.State.drop_named.Goals as goal
 
 pub returns-in_default-clause-comes : goal.returns-in_default-clause-comes

@@ -4,7 +4,7 @@ use Rattle.workspace_json.specs.declared.reply.Reply.TheVariants as reply
 use Rattle.workspace_json.specs.Steps.{known}
 use Rattle.hashcons.specs.Contents.{diagram_at}
 use Rattle.session_undo.specs.States.{present_of}
-use Rattle.session_undo.proofs.CommandLemmas.{both_known, one_unknown, stopped_answer, two_unknown}
+use Rattle.session_undo.proofs.TestedCommands.{both_known, one_unknown, stopped_answer, two_unknown}
 use Rattle.session_undo.proofs.state.State.equal.Goals as goal
 
 pub returns-in_err-first : goal.returns-in_err-first

@@ -3,8 +3,8 @@ use Rattle.std.proofs.lemmas.Result.{err_from_is_err_and}
 use Rattle.typecheck.specs.Signatures.{generator_in}
 use Rattle.workspace_json.specs.Steps.{both, generator_change, known_boundary, new_name}
 use Rattle.session_undo.specs.States.{present_of, session_of}
-use Rattle.session_undo.proofs.CommandLemmas.{comes_by, stopped}
-use Rattle.session_undo.proofs.GeneratorLemmas.{generator_unknown, generator_unnamed}
+use Rattle.session_undo.proofs.TestedCommands.{comes_by, stopped}
+use Rattle.session_undo.proofs.AddedGenerators.{generator_unknown, generator_unnamed}
 use Rattle.session_undo.proofs.state.State.generator.Goals as goal
 
 pub returns-in_err-new_name-clause-comes : goal.returns-in_err-new_name-clause-comes

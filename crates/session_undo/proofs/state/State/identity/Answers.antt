@@ -2,6 +2,7 @@ use Rattle.std.proofs.Common.{◌≡◌, ◌≤◌, ◌<◌, ◌∙◌, suc, Boo
 use Rattle.std.specs.Prelude.{nat_lt}
 use Rattle.std.proofs.lemmas.Bool.Decides.{nat_tests}
 use Rattle.std.proofs.lemmas.Result.{err_from_is_err_and}
+use Rattle.diagram_terms.specs.declared.limits.TheConstants.{GREATEST_DIM}
 use Rattle.diagram_terms.specs.ConeTrees.{identity_diagram_tree}
 use Rattle.diagram_terms.specs.Dimension.{dimension_of}
 use Rattle.diagram_terms.specs.Tree.{Tree}
@@ -12,7 +13,7 @@ use Rattle.workspace_json.specs.declared.reply.Word.TheVariants as word
 use Rattle.workspace_json.specs.Steps.{known, new_name, stored}
 use Rattle.workspace_json.specs.Workspaces.{Workspace}
 use Rattle.session_undo.specs.States.{ComesTo, present_of, session_of}
-use Rattle.session_undo.proofs.CommandLemmas.{comes_by, identity_tested, identity_unknown, identity_unnamed, stopped}
+use Rattle.session_undo.proofs.TestedCommands.{comes_by, identity_tested, identity_unknown, identity_unnamed, stopped}
 use Rattle.session_undo.proofs.TreeLengths.{identity_dimension}
 use Rattle.session_undo.proofs.state.State.identity.Goals as goal
 
@@ -29,18 +30,18 @@ returns-in_err-d-clause-comes c =
     rw (p.1, p.2) (stopped (known W c.args.of.now) _ (session_of c.args.self.now) c.in_err-d.field-0.0 c.in_err-d.ensures.answer
     (λ r e. identity_unknown W c.args.name.now c.args.of.now r c.in_ok-new_name.ensures e))
 
-pub returns-then-dim-ge-MAX_DIM-clause-comes : goal.returns-then-dim-ge-MAX_DIM-clause-comes
-returns-then-dim-ge-MAX_DIM-clause-comes c =
+pub returns-then-dim-ge-GREATEST_DIM-clause-comes : goal.returns-then-dim-ge-GREATEST_DIM-clause-comes
+returns-then-dim-ge-GREATEST_DIM-clause-comes c =
     let W = present_of c.args.self.now in
     let t = diagram_at c.args.self.now.store c.in_ok-d.d in
-    let high : nat_lt (dimension_of t) 6 ≡ false = let h = c.if-dim-ge-MAX_DIM.true in let k = c.dim.ensures.dim in grind (arith, nat_tests) in
+    let high : nat_lt (dimension_of t) GREATEST_DIM ≡ false = let h = c.if-dim-ge-GREATEST_DIM.true in let k = c.dim.ensures.dim in grind (arith, nat_tests) in
     ap (change (session_of c.args.self.now)) (identity_tested W c.args.name.now c.args.of.now t false c.in_ok-new_name.ensures c.in_ok-d.ensures.answer high)
 
 pub store_diagram-requires-clause-low : goal.store_diagram-requires-clause-low
 store_diagram-requires-clause-low c =
     let t = diagram_at c.args.self.now.store c.in_ok-d.d in
-    let e : dimension_of (diagram_at c.identity_of.new.self.store c.in_ok-root.root) ≡ suc (dimension_of t) = ap dimension_of c.in_ok-root.ensures.tree ∙ identity_dimension c.dim.result t c.dim.ensures.shape in
-    let h = c.if-dim-ge-MAX_DIM.false in
+    let e : dimension_of (diagram_at c.identity_of.new.self.store c.in_ok-root.root) ≡ suc (dimension_of t) = ap dimension_of c.in_ok-root.ensures.made.tree ∙ identity_dimension c.dim.result t c.dim.ensures.shape in
+    let h = c.if-dim-ge-GREATEST_DIM.false in
     let k = c.dim.ensures.dim in
     omega arith
 
@@ -53,8 +54,8 @@ returns-clause-comes c =
     let u = c.identity_of.new.self in
     let W = present_of s in
     let t = diagram_at s.store c.in_ok-d.d in
-    let low : nat_lt (dimension_of t) 6 ≡ true = let h = c.if-dim-ge-MAX_DIM.false in let k = c.dim.ensures.dim in grind (arith, nat_tests) in
+    let low : nat_lt (dimension_of t) GREATEST_DIM ≡ true = let h = c.if-dim-ge-GREATEST_DIM.false in let k = c.dim.ensures.dim in grind (arith, nat_tests) in
     let done = identity_tested W c.args.name.now c.args.of.now t true c.in_ok-new_name.ensures c.in_ok-d.ensures.answer low in
-    let tree : diagram_at u.store c.in_ok-root.root ≡ identity_diagram_tree t = c.in_ok-root.ensures.tree in
+    let tree : diagram_at u.store c.in_ok-root.root ≡ identity_diagram_tree t = c.in_ok-root.ensures.made.tree in
     comes_by (session_of u) (session_of s) (session_of c.store_diagram.new.self) _ _ c.store_diagram.result c.in_ok-root.ensures.stays.session
     ((λ i. stored (c.in_ok-root.ensures.stays.present i) word.Identity c.args.name.now (tree i)) ∙ sym done) c.store_diagram.ensures.comes

@@ -3,11 +3,12 @@ use Rattle.std.specs.Global.{Vec}
 use Rattle.session_undo.specs.declared.edit.Edit.{Edit}
 use Rattle.workspace_lists.specs.declared.workspace.Generator.{Generator}
 use Rattle.workspace_lists.specs.declared.workspace.Named.{Named}
-use Rattle.session_undo.specs.Edits.{diagrams_put, generators_put, trees_in}
+use Rattle.workspace_lists.specs.Held.{trees_in}
+use Rattle.session_undo.specs.Edits.{diagrams_put, generators_put}
 use Rattle.session_undo.specs.Meanings.{Tell}
 use Rattle.session_undo.specs.States.{IsHistory, entries_over}
-use Rattle.session_undo.proofs.MeaningLemmas.{generators_at}
-use Rattle.session_undo.proofs.StateLemmas.{history_of_nothing, tell_nothing}
+use Rattle.session_undo.proofs.ToldMeanings.{generators_at}
+use Rattle.session_undo.proofs.StateInvariant.{history_of_nothing, tell_nothing}
 use Rattle.session_undo.proofs.state.State.new.Goals as goal
 
 pub returns-clause-state : goal.returns-clause-state

@@ -2,12 +2,13 @@ use Rattle.std.proofs.Common.{◌≡◌, ℕ, ◌+◌, ◌≤◌, ◌∙◌, ◌
 use Rattle.std.proofs.lemmas.List.{length_push}
 use Rattle.workspace_json.specs.Sessions.{redone}
 use Rattle.session_undo.specs.declared.edit.Edit.{Edit}
-use Rattle.session_undo.specs.Edits.{LeadsForth, Lists, diagrams_put, diagrams_put_by, edited, generators_put, put_by}
+use Rattle.workspace_lists.specs.Held.{Lists}
+use Rattle.session_undo.specs.Edits.{LeadsForth, diagrams_put, diagrams_put_by, edited, generators_put, put_by}
 use Rattle.session_undo.specs.Signing.{followed_forth}
 use Rattle.session_undo.specs.States.{IsHistory, entries_over, lists_of, session_over}
-use Rattle.session_undo.proofs.EditLemmas.{all_last}
-use Rattle.session_undo.proofs.HistoryLemmas.{balanced, diagrams_put-push, generators_put-push, next_fits, next_good, session_forth, turned_forth}
-use Rattle.session_undo.proofs.StateLemmas.{can_follow_forth, follows_forth, room_for, told}
+use Rattle.session_undo.proofs.EditsBack.{all_last}
+use Rattle.session_undo.proofs.Histories.{balanced, diagrams_put-push, generators_put-push, next_fits, next_good, session_forth, turned_forth}
+use Rattle.session_undo.proofs.StateInvariant.{can_follow_forth, follows_forth, room_for, told}
 use Rattle.session_undo.proofs.state.State.redo.Goals as goal
 
 pub follow_forth-requires : goal.follow_forth-requires

@@ -4,7 +4,7 @@ use Rattle.workspace_json.specs.declared.reply.Reply.{Reply}
 use Rattle.workspace_json.specs.Steps.{known}
 use Rattle.hashcons.specs.Contents.{diagram_at}
 use Rattle.session_undo.specs.States.{present_of}
-use Rattle.session_undo.proofs.CommandLemmas.{slice_of, slice_unknown, stopped_answer}
+use Rattle.session_undo.proofs.TestedCommands.{slice_of, slice_unknown, stopped_answer}
 use Rattle.session_undo.proofs.state.State.slice.Goals as goal
 
 pub returns-in_err-d : goal.returns-in_err-d
@@ -13,14 +13,15 @@ returns-in_err-d c =
     let W = present_of c.args.self.now in
     rw (p.1, p.2) (stopped_answer (known W c.args.of.now) _ c.in_err-d.field-0.0 c.in_err-d.ensures.answer (slice_unknown W c.args.of.now c.args.path.now))
 
-pub returns-in-Err : goal.returns-in-Err
-returns-in-Err c =
+pub returns-in_err-found : goal.returns-in_err-found
+returns-in_err-found c =
     let W = present_of c.args.self.now in
     let t = diagram_at c.args.self.now.store c.in_ok-d.d in
-    slice_of W c.args.of.now c.args.path.now t _ c.in_ok-d.ensures.answer c.in-Err.ensures.refused
+    let p = err_from_is_err_and c.from_residual-in_err-found.result c.from_residual-in_err-found.ensures.1 in
+    rw (p.1, p.2) (slice_of W c.args.of.now c.args.path.now t _ c.in_ok-d.ensures.answer c.in_err-found.ensures.refused)
 
-pub returns-in_ok-printed-in-Ok : goal.returns-in_ok-printed-in-Ok
-returns-in_ok-printed-in-Ok c =
+pub returns : goal.returns
+returns c =
     let W = present_of c.args.self.now in
     let t = diagram_at c.args.self.now.store c.in_ok-d.d in
-    slice_of W c.args.of.now c.args.path.now t _ c.in_ok-d.ensures.answer c.in-Ok.ensures.found ∙ ap Ok (sym c.in_ok-printed-in-Ok.ensures)
+    slice_of W c.args.of.now c.args.path.now t _ c.in_ok-d.ensures.answer c.in_ok-found.ensures.found ∙ ap Ok (sym c.in_ok-printed.ensures)

@@ -1,4 +1,5 @@
 use Rattle.std.proofs.Common.{◌≡◌, ◌∙◌, ◌≤◌, List, ℕ, length, true, Ok, refl, sym, ap, subst, arith}
+use Rattle.diagram_terms.specs.declared.limits.TheConstants.{GREATEST_DIM}
 use Rattle.diagram_terms.specs.Decoded.{dia}
 use Rattle.diagram_terms.specs.Dimension.{dimension_of}
 use Rattle.diagram_terms.specs.Family.{length_of}
@@ -13,8 +14,8 @@ use Rattle.workspace_json.specs.Workspaces.{Workspace, generators_of, with_diagr
 use Rattle.workspace_lists.specs.declared.workspace.Named.{Named}
 use Rattle.workspace_lists.specs.Names.{knows}
 use Rattle.session_undo.specs.States.{lists_of, present_of, session_of}
-use Rattle.session_undo.proofs.ChangeLemmas.{accepted, can_put_diagram, room_to_put_diagram, said_stored, stored_comes, with_diagram_in}
-use Rattle.session_undo.proofs.RuleLemmas.{IsNew, is_new}
+use Rattle.session_undo.proofs.StoredDiagrams.{accepted, can_put_diagram, room_to_put_diagram, said_stored, stored_comes, with_diagram_in}
+use Rattle.session_undo.proofs.WorkspaceRules.{IsNew, is_new}
 use Rattle.session_undo.proofs.TreeLengths.{tree_length}
 use Rattle.session_undo.proofs.state.State.store_diagram.Goals as goal
 
@@ -33,7 +34,7 @@ accept-requires-clause-can c =
     let typed : IsWellTyped (generators_of (present_of u)) (diagram_at u.store c.args.root) =
     subst (λ (t : Tree). IsWellTyped (generators_of (present_of u)) t) (sym tree)
     (subst (λ (W : Workspace). IsWellTyped (generators_of W) (diagram_at s.store c.args.root)) (sym present) c.in_ok-check.ensures.typed) in
-    let low : dimension_of (diagram_at u.store c.args.root) ≤ 6 = subst (λ (t : Tree). dimension_of t ≤ 6) (sym tree) c.requires.low in
+    let low : dimension_of (diagram_at u.store c.args.root) ≤ GREATEST_DIM = subst (λ (t : Tree). dimension_of t ≤ GREATEST_DIM) (sym tree) c.requires.low in
     can_put_diagram u c.in_ok-make_room.ensures.state d c.len-place.result (omega (arith, c.len-place.ensures)) new typed low
     (c.in_ok-make_room.ensures.stays.grows.diagrams c.args.root held)
     (subst (λ (name : List ℕ). knows u.entries.names name ≡ true) c.as_str.ensures c.in_ok-make_room.ensures.room.place)
@@ -55,7 +56,7 @@ returns-clause-comes c =
     let held : IsDiagramOf c.check.new.self.store c.args.root = c.in_ok-check.ensures.stays.grows.diagrams c.args.root c.requires.of_store in
     let tree : diagram_at u.store c.args.root ≡ t = c.in_ok-make_room.ensures.stays.grows.diagram_trees c.args.root held ∙ kept in
     stored_comes (session_of s) (session_of c.accept.new.self) W c.args.word c.args.name.now t _ c.in_ok-check.ensures.answer
-    (said_stored t (diagram_at c.check.new.self.store c.args.root) c.dim.result c.length.result c.args.name.now c.in_ok-copy_of.field-0 c.args.word kept c.dim.ensures.shape c.dim.ensures.dim c.length.ensures.length c.in_ok-copy_of.ensures)
+    (said_stored t (diagram_at c.check.new.self.store c.args.root) c.dim.result c.length.result c.args.name.now c.in_ok-copy.field-0 c.args.word kept c.dim.ensures.shape c.dim.ensures.dim c.length.ensures.length c.in_ok-copy.ensures)
     (accepted (session_of s) (session_of c.accept.new.self) (session_of u) _ (c.in_ok-make_room.ensures.stays.session ∙ c.in_ok-check.ensures.stays.session) c.accept.ensures.session
     (with_diagram W c.args.name.now t)
     (with_diagram_in u.store (lists_of u.entries) c.len-place.result d (omega (arith, c.len-place.ensures))

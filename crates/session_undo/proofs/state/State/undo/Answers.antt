@@ -2,13 +2,14 @@ use Rattle.std.proofs.Common.{◌≡◌, ℕ, ◌+◌, ◌≤◌, ◌∙◌, ◌
 use Rattle.std.proofs.lemmas.List.{length_push}
 use Rattle.workspace_json.specs.Sessions.{undone}
 use Rattle.session_undo.specs.declared.edit.Edit.{Edit}
-use Rattle.session_undo.specs.Edits.{Fits, HasType, IsGoodAt, LeadsBack, Lists, diagrams_put, diagrams_put_by, edited, generators_put, put_by, trees_in}
+use Rattle.workspace_lists.specs.Held.{Lists, trees_in}
+use Rattle.session_undo.specs.Edits.{Fits, HasType, IsGoodAt, LeadsBack, diagrams_put, diagrams_put_by, edited, generators_put, put_by}
 use Rattle.session_undo.specs.EditSteps.{Telling}
 use Rattle.session_undo.specs.Signing.{followed_back}
 use Rattle.session_undo.specs.States.{IsHistory, entries_over, lists_of, session_over}
-use Rattle.session_undo.proofs.EditLemmas.{all_last}
-use Rattle.session_undo.proofs.HistoryLemmas.{AreBalanced, back_puts_no_generator, balanced, diagrams_put-push, generators_put-push, next_fits, next_good, session_back, turned_back}
-use Rattle.session_undo.proofs.StateLemmas.{can_follow_back, follows_back, room_for, taken_is_put, told}
+use Rattle.session_undo.proofs.EditsBack.{all_last}
+use Rattle.session_undo.proofs.Histories.{AreBalanced, back_puts_no_generator, balanced, diagrams_put-push, generators_put-push, next_fits, next_good, session_back, turned_back}
+use Rattle.session_undo.proofs.StateInvariant.{can_follow_back, follows_back, room_for, taken_is_put, told}
 use Rattle.session_undo.proofs.state.State.undo.Goals as goal
 
 pub follow_back-requires : goal.follow_back-requires

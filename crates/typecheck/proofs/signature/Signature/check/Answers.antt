@@ -4,7 +4,7 @@ use Rattle.typecheck.specs.declared.verdict.Verdict.TheVariants as verdict
 use Rattle.hashcons.specs.Contents.{diagram_at}
 use Rattle.typecheck.proofs.Fields.{dims_fit}
 use Rattle.typecheck.proofs.GoodSignatures.{good-kept}
-use Rattle.typecheck.proofs.OutcomeLemmas.{shape_before, yes_is_well_typed}
+use Rattle.typecheck.proofs.AddAnswers.{yes_is_well_typed}
 use Rattle.typecheck.proofs.signature.Signature.check.Goals as goal
 use Rattle.typecheck.proofs.signature.Signature.check.Goals.{in-None, in-Some}
 
@@ -24,7 +24,7 @@ pub returns-clause-yes : goal.returns-clause-yes
 returns-clause-yes c =
     let fit = dims_fit c.self.inside c.args.self.now c.self.view_is c.self.invariant c.args.store.now c.requires.good in
     let found = c.in_ok-first_fault.ensures.exact (generators_of c.args.store.now c.args.self.now) (fit ∙ sym c.deref.ensures.value) in
-    let shape = shape_before c.args.store.now c.first_fault.new.store c.args.d c.first_fault.ensures.grows c.first_fault.ensures.store c.requires.of_store in
+    let shape = c.allocator.ensures.diagrams c.args.d c.requires.of_store in
     let tells = yes_is_well_typed (generators_of c.args.store.now c.args.self.now) (diagram_at c.args.store.now c.args.d) in
     elim c.match-branch-2.branch [
       | in-None w ↦ rw w.result-is (tells verdict.Yes shape (sym w.in-None.is ∙ found))

@@ -1,6 +1,6 @@
 use Rattle.std.proofs.Common.{◌≡◌, ◌∙◌, ◌-◌, ap, length, take, arith}
 use Rattle.typecheck.specs.Signatures.{SignatureState}
-use Rattle.typecheck.proofs.EntryLemmas.{entries_of-removed}
+use Rattle.typecheck.proofs.SideBySide.{entries_of-removed}
 use Rattle.typecheck.proofs.signature.Signature.remove_last.Goals as goal
 
 pub returns-clause-entries : goal.returns-clause-entries

@@ -7,6 +7,7 @@ use Rattle.std.proofs.lemmas.List.{length-map, length_push}
 use Rattle.std.proofs.lemmas.List.Edits.{length-remove}
 use Rattle.std.proofs.lemmas.List.Elements.{All-append}
 use Rattle.std.proofs.lemmas.List.Sums.{sum_by-insert}
+use Rattle.diagram_terms.specs.declared.limits.TheConstants.{GREATEST_DIM}
 use Rattle.diagram_terms.specs.Dimension.{dimension_of}
 use Rattle.diagram_terms.specs.Tree.{Tree}
 use Rattle.diagram_terms.specs.Typing.{IsWellTyped}
@@ -14,17 +15,17 @@ use Rattle.hashcons.specs.Contents.{Contents, IsDiagramOf, diagram_at}
 use Rattle.node_json.specs.Names.{is_good_name}
 use Rattle.workspace_json.specs.Workspaces.{IsWorkspace, NamedDiagram, NamedGenerator, Workspace, diagram_named, generators_of, names_of, without_diagram}
 use Rattle.workspace_lists.specs.declared.workspace.Named.{Named}
-use Rattle.workspace_lists.specs.Held.{diagram_over, diagrams_over}
+use Rattle.workspace_lists.specs.Held.{Lists, diagram_over, diagrams_over, trees_in}
 use Rattle.workspace_lists.specs.Names.{knows}
 use Rattle.session_undo.specs.declared.edit.Edit.{Edit}
 use Rattle.session_undo.specs.declared.edit.Edit.TheVariants as edit
 use Rattle.session_undo.specs.declared.state.State.{State}
-use Rattle.session_undo.specs.Edits.{Lists, edited, trees_in}
+use Rattle.session_undo.specs.Edits.{edited}
 use Rattle.session_undo.specs.States.{CanAccept, HasRoomForEdit, HasRoomForOne, IsState, lists_of, present_of}
-use Rattle.session_undo.proofs.EditLemmas.{insert-remove}
-use Rattle.session_undo.proofs.HistoryLemmas.{diagrams_put-le}
-use Rattle.session_undo.proofs.NameLemmas.{count-append, count-cons, is_name}
-use Rattle.session_undo.proofs.RuleLemmas.{all_left, all_removed, all_right}
+use Rattle.session_undo.proofs.EditsBack.{insert-remove}
+use Rattle.session_undo.proofs.Histories.{diagrams_put-le}
+use Rattle.session_undo.proofs.GainedNames.{count-append, count-cons, is_name}
+use Rattle.session_undo.proofs.WorkspaceRules.{all_left, all_removed, all_right}
 
 -- ---- the first place
 
@@ -158,7 +159,7 @@ without_rule W i l h =
       signature = h.signature;
       typed = all_removed (λ (d : NamedDiagram). IsWellTyped (generators_of W) d.tree) i W.diagrams h.typed;
       generator_dims = h.generator_dims;
-      diagram_dims = all_removed (λ (d : NamedDiagram). dimension_of d.tree ≤ 6) i W.diagrams h.diagram_dims;
+      diagram_dims = all_removed (λ (d : NamedDiagram). dimension_of d.tree ≤ GREATEST_DIM) i W.diagrams h.diagram_dims;
       few = h.few;
     }
 

@@ -13,12 +13,12 @@ use Rattle.workspace_lists.specs.declared.names.Meaning.TheVariants as meaning
 use Rattle.workspace_lists.specs.declared.names.Names.{Names}
 use Rattle.workspace_lists.specs.declared.workspace.Generator.{Generator}
 use Rattle.workspace_lists.specs.declared.workspace.Named.{Named}
-use Rattle.workspace_lists.specs.Held.{diagram_over, diagrams_over, generator_over, generators_over}
+use Rattle.workspace_lists.specs.Held.{Lists, diagram_over, diagrams_over, generator_over, generators_over, trees_in}
 use Rattle.workspace_lists.specs.Names.{meaning_in}
-use Rattle.session_undo.specs.Edits.{IsTypeOf, Lists, trees_in}
-use Rattle.session_undo.specs.Meanings.{Gains, IsMeaningOf, Stands, Tell, diagram, free, generator, meaning_over, stands_for}
-use Rattle.session_undo.proofs.EditLemmas.{front_of}
-use Rattle.session_undo.proofs.NameLemmas.{diagram_was_free, gains_diagram, gains_generator, generator_was_free}
+use Rattle.session_undo.specs.Edits.{IsTypeOf}
+use Rattle.session_undo.specs.Meanings.{IsMeaningOf, Stands, Tell, diagram, free, generator, meaning_over, stands_for}
+use Rattle.session_undo.proofs.EditsBack.{front_of}
+use Rattle.session_undo.proofs.GainedNames.{Gains, diagram_was_free, gains_diagram, gains_generator, generator_was_free}
 
 -- the table after a name got another meaning
 abbrev pub Replaces : Names → Names → List ℕ → Meaning → Type 0

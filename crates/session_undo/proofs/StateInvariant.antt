@@ -3,6 +3,7 @@ use Rattle.std.proofs.Common.{◌≡◌, ℕ, zero, suc, ◌+◌, ◌-◌, ◌<�
 use Rattle.std.specs.Vec.{vec_capacity}
 use Rattle.std.proofs.lemmas.List.{length-map, length_push, map-append, take-map}
 use Rattle.std.proofs.lemmas.List.Elements.{All-head, All-nil, All-tail}
+use Rattle.diagram_terms.specs.declared.limits.TheConstants.{GREATEST_DIM}
 use Rattle.diagram_terms.specs.Dimension.{dimension_of}
 use Rattle.diagram_terms.specs.Tree.{Tree}
 use Rattle.diagram_terms.specs.Typing.{Generator, generator_dim, IsGoodSignature, IsWellTyped}
@@ -17,16 +18,16 @@ use Rattle.workspace_lists.specs.declared.workspace.Generator.{Generator as Kept
 use Rattle.workspace_lists.specs.declared.workspace.Named.{Named}
 use Rattle.workspace_lists.specs.declared.workspace.Workspace.{Workspace as Held}
 use Rattle.workspace_lists.specs.Names.{knows, meaning_in}
-use Rattle.workspace_lists.specs.Held.{IsGeneratorOf, generator_over, generators_over}
+use Rattle.workspace_lists.specs.Held.{AreHeld, IsGeneratorOf, Lists, generator_over, generators_over, trees_in}
 use Rattle.session_undo.specs.Meanings.{IsMeaningOf, Tell, meaning_over, stands_by}
 use Rattle.session_undo.specs.declared.entries.Entries.{Entries}
 use Rattle.session_undo.specs.declared.edit.Edit.{Edit}
 use Rattle.session_undo.specs.declared.edit.Edit.TheVariants as edit
-use Rattle.session_undo.specs.Edits.{AreHeld, AreOpposite, HasType, IsGoodAt, IsWithin, LeadsBack, LeadsForth, Lists, diagrams_put_by, edited, put_by, trees_in}
+use Rattle.session_undo.specs.Edits.{AreOfOppositeKinds, HasType, IsGoodAt, IsWithin, LeadsBack, LeadsForth, diagrams_put_by, edited, put_by}
 use Rattle.session_undo.specs.Signing.{CanFollowBack, CanFollowForth, followed_back, followed_forth, taken_by}
 use Rattle.session_undo.specs.EditSteps.{HasRoomFor, KeepsTelling, Telling}
 use Rattle.session_undo.specs.States.{IsHistory, entries_over, lists_of}
-use Rattle.session_undo.proofs.EditLemmas.{all_last}
+use Rattle.session_undo.proofs.EditsBack.{all_last}
 
 -- ---- the signature of a workspace
 
@@ -37,16 +38,16 @@ pub generators_are : (c : Contents) (gs : List Kept) → generators_in c (entrie
 generators_are c [] = refl
 generators_are c (g ∷ gs) = ap (λ hs. generator_in c g.boundary ∷ hs) (generators_are c gs)
 
-right_at : (c : Contents) (gs : List Kept) → All (IsGeneratorOf c) gs → All (λ (g : Generator). generator_dim g ≤ 6) (map (λ g. g.generator) (generators_over c gs))
+right_at : (c : Contents) (gs : List Kept) → All (IsGeneratorOf c) gs → All (λ (g : Generator). generator_dim g ≤ GREATEST_DIM) (map (λ g. g.generator) (generators_over c gs))
     → (i : ℕ) → i < length gs → IsEntryOver c (get_or (entries_over gs) i no_entry)
 right_at c [] held low i l = absurd (omega arith)
 right_at c (g ∷ gs) held low zero l =
     let h = All-head (IsGeneratorOf c) g gs held in
-    let k = All-head (λ (g : Generator). generator_dim g ≤ 6) (generator_in c g.boundary) (map (λ g. g.generator) (generators_over c gs)) low in
+    let k = All-head (λ (g : Generator). generator_dim g ≤ GREATEST_DIM) (generator_in c g.boundary) (map (λ g. g.generator) (generators_over c gs)) low in
     record { of_store = h.of_store; dim = h.dim; low = let e = h.dim in omega arith }
 right_at c (g ∷ gs) held low (suc i) l =
     right_at c gs (All-tail (IsGeneratorOf c) g gs held)
-    (All-tail (λ (g : Generator). generator_dim g ≤ 6) (generator_in c g.boundary) (map (λ g. g.generator) (generators_over c gs)) low) i (omega arith)
+    (All-tail (λ (g : Generator). generator_dim g ≤ GREATEST_DIM) (generator_in c g.boundary) (map (λ g. g.generator) (generators_over c gs)) low) i (omega arith)
 
 -- the generators of a good workspace are a good signature
 pub good_entries : (c : Contents) (names : Names) (l : Lists) → IsGoodAt c names l → AreGoodOver c (entries_over l.generators)
@@ -104,7 +105,7 @@ can_follow_forth c names l (edit.TakeDiagram place) s same room good = tt
 can_follow_forth c names l (edit.PutDiagram place d) s same room good = tt
 
 -- how many generators an edit that leads back takes, its opposite puts
-pub taken_is_put : (e i : Edit) → LeadsBack e → AreOpposite e i → taken_by e ≡ put_by i
+pub taken_is_put : (e i : Edit) → LeadsBack e → AreOfOppositeKinds e i → taken_by e ≡ put_by i
 taken_is_put edit.TakeGenerator (edit.PutGenerator g m) h o = refl
 taken_is_put (edit.PutGenerator g m) i h o = absurd h
 taken_is_put (edit.TakeDiagram place) (edit.PutDiagram at d) h o = refl
@@ -189,8 +190,8 @@ empty_good c names = record {
     once = λ name. omega arith;
     signature = record { good = λ i l. absurd (omega arith) };
     typed = All-nil (λ (d : NamedDiagram). IsWellTyped [] d.tree);
-    generator_dims = All-nil (λ (g : Generator). generator_dim g ≤ 6);
-    diagram_dims = All-nil (λ (d : NamedDiagram). dimension_of d.tree ≤ 6);
+    generator_dims = All-nil (λ (g : Generator). generator_dim g ≤ GREATEST_DIM);
+    diagram_dims = All-nil (λ (d : NamedDiagram). dimension_of d.tree ≤ GREATEST_DIM);
     few = omega arith;
   };
 }

@@ -2,10 +2,8 @@
 use Rattle.std.proofs.Common.{◌≡◌, ℕ, List, [], ◌∷◌, ◌++◌, length, map, reverse, All, refl, sym, ap, subst, ◌∙◌}
 use Rattle.std.proofs.lemmas.List.Elements.{All-cons, All-head, All-nil, All-tail, All-weaker}
 use Rattle.diagram_terms.specs.GeneratorTypes.{type_of_generator}
-use Rattle.diagram_terms.specs.Typing.{generator_dim}
 use Rattle.hashcons.specs.Contents.{Contents, Grows, IsDiagramOf, diagram_at}
-use Rattle.typecheck.specs.Signatures.{generator_in}
-use Rattle.typecheck.proofs.GoodSignatures.{boundary-kept, generator-kept}
+use Rattle.typecheck.proofs.GoodSignatures.{generator-kept}
 use Rattle.workspace_json.specs.Sessions.{Session}
 use Rattle.workspace_json.specs.Workspaces.{IsWorkspace, NamedDiagram, NamedGenerator, Workspace}
 use Rattle.workspace_lists.specs.declared.names.Meaning.{Meaning}
@@ -13,54 +11,22 @@ use Rattle.workspace_lists.specs.declared.names.Meaning.TheVariants as meaning
 use Rattle.workspace_lists.specs.declared.names.Names.{Names}
 use Rattle.workspace_lists.specs.declared.workspace.Generator.{Generator}
 use Rattle.workspace_lists.specs.declared.workspace.Named.{Named}
-use Rattle.workspace_lists.specs.Held.{IsGeneratorOf, diagrams_over, generators_over}
+use Rattle.workspace_lists.specs.Held.{AreHeld, IsGeneratorOf, Lists, diagrams_over, generators_over, trees_in}
 use Rattle.workspace_lists.specs.Names.{meaning_in}
+use Rattle.workspace_lists.proofs.ForCallers.{held-kept, trees-kept}
 use Rattle.session_undo.specs.declared.edit.Edit.{Edit}
 use Rattle.session_undo.specs.declared.edit.Edit.TheVariants as edit
-use Rattle.session_undo.specs.Edits.{AllFit, AreHeld, Fits, HasType, IsGoodAt, IsTypeOf, Lists, edited, trees_in, turns}
+use Rattle.session_undo.specs.Edits.{AllFit, Fits, HasType, IsGoodAt, IsTypeOf, edited, turns}
 use Rattle.session_undo.specs.Meanings.{IsMeaningOf, Stands, Tell, diagram, generator, meaning_over}
 use Rattle.session_undo.specs.States.{IsHistory, session_over}
-use Rattle.session_undo.proofs.EditLemmas.{all_last}
+use Rattle.session_undo.proofs.EditsBack.{all_last}
 
 module _ (old new : Contents) (grows : Grows old new) where
-  generators-kept : (gs : List Generator) → All (IsGeneratorOf old) gs → generators_over new gs ≡ generators_over old gs
-  generators-kept [] h = refl
-  generators-kept (g ∷ gs) h =
-      let here = generator-kept old new g.boundary grows (All-head (IsGeneratorOf old) g gs h).of_store in
-      let rest = generators-kept gs (All-tail (IsGeneratorOf old) g gs h) in
-      λ i. let x : NamedGenerator = record { name = g.name; generator = here i } in x ∷ rest i
-
-  diagrams-kept : (ds : List Named) → All (λ (d : Named). IsDiagramOf old d.root) ds → diagrams_over new ds ≡ diagrams_over old ds
-  diagrams-kept [] h = refl
-  diagrams-kept (d ∷ ds) h =
-      let here = grows.diagram_trees d.root (All-head (λ (e : Named). IsDiagramOf old e.root) d ds h) in
-      let rest = diagrams-kept ds (All-tail (λ (e : Named). IsDiagramOf old e.root) d ds h) in
-      λ i. let x : NamedDiagram = record { name = d.name; tree = here i } in x ∷ rest i
-
-  -- the trees are the same
-  pub trees-kept : (l : Lists) → AreHeld old l → trees_in new l ≡ trees_in old l
-  trees-kept l h =
-      let g = generators-kept l.generators h.generators in
-      let d = diagrams-kept l.diagrams h.diagrams in
-      λ i. let w : Workspace = record { generators = g i; diagrams = d i } in w
-
-  generator_of-kept : (g : Generator) → IsGeneratorOf old g → IsGeneratorOf new g
-  generator_of-kept g h = record {
-    of_store = boundary-kept old new g.boundary grows h.of_store;
-    dim = h.dim ∙ ap generator_dim (sym (generator-kept old new g.boundary grows h.of_store));
-  }
-
-  pub held-kept : (l : Lists) → AreHeld old l → AreHeld new l
-  held-kept l h = record {
-    generators = All-weaker (IsGeneratorOf old) (IsGeneratorOf new) generator_of-kept l.generators h.generators;
-    diagrams = All-weaker (λ (d : Named). IsDiagramOf old d.root) (λ (d : Named). IsDiagramOf new d.root) (λ d k. grows.diagrams d.root k) l.diagrams h.diagrams;
-  }
-
   pub good-kept : (names : Names) (l : Lists) → IsGoodAt old names l → IsGoodAt new names l
   good-kept names l h = record {
-    held = held-kept l h.held;
+    held = held-kept old new grows l h.held;
     known = h.known;
-    rule = subst IsWorkspace (sym (trees-kept l h.held)) h.rule;
+    rule = subst IsWorkspace (sym (trees-kept old new grows l h.held)) h.rule;
   }
 
   all_good-kept : (names : Names) (ls : List Lists) → All (IsGoodAt old names) ls → All (IsGoodAt new names) ls
@@ -69,7 +35,7 @@ module _ (old new : Contents) (grows : Grows old new) where
   all_trees-kept : (names : Names) (ls : List Lists) → All (IsGoodAt old names) ls → map (trees_in new) ls ≡ map (trees_in old) ls
   all_trees-kept names [] h = refl
   all_trees-kept names (l ∷ ls) h =
-      let here = trees-kept l (All-head (IsGoodAt old names) l ls h).held in
+      let here = trees-kept old new grows l (All-head (IsGoodAt old names) l ls h).held in
       let rest = all_trees-kept names ls (All-tail (IsGoodAt old names) l ls h) in
       λ i. here i ∷ rest i
 
@@ -124,11 +90,11 @@ module _ (old new : Contents) (grows : Grows old new) where
 
   pub session-kept : (names : Names) (l : Lists) (past future : List Edit) → IsHistory old names l past future → session_over new l past future ≡ session_over old l past future
   session-kept names l past future h =
-      let p = trees-kept l h.present.held in
+      let p = trees-kept old new grows l h.present.held in
       let b = all_trees-kept names (turns l (reverse past)) h.before in
       let a = all_trees-kept names (turns l (reverse future)) h.after in
       λ i. let s : Session = record { present = p i; past = b i; future = a i } in s
 
   -- and the table tells of the same workspace
   pub telling-kept : (names : Names) (l : Lists) → IsGoodAt old names l → Tell old (trees_in old l) names → Tell new (trees_in new l) names
-  telling-kept names l h tell = subst (λ (W : Workspace). Tell new W names) (sym (trees-kept l h.held)) (tell-kept (trees_in old l) names tell)
+  telling-kept names l h tell = subst (λ (W : Workspace). Tell new W names) (sym (trees-kept old new grows l h.held)) (tell-kept (trees_in old l) names tell)

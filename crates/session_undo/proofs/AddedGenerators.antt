@@ -1,104 +1,57 @@
 -- A generator is added: what refuses it, and what a session keeps of it.
 use Rattle.std.proofs.Common.{◌≡◌, ℕ, suc, ◌+◌, ◌<◌, ◌≤◌, ◌⊎◌, inl, inr, List, [], ◌∷◌, ◌++◌, length, map, get_or, Bool, true, false, All, Option, Some, None, option_map, Result, Ok, Err, refl, sym, ap, subst, ◌∙◌, arith}
-use Rattle.std.specs.Prelude.{◌==◌, nat_le, nat_lt}
 use Rattle.std.proofs.lemmas.List.{get_or_push, length-map, length_push, map-append}
 use Rattle.std.proofs.lemmas.List.Elements.{All-push}
 use Rattle.diagram_terms.specs.declared.label.Label.{Label}
-use Rattle.diagram_terms.specs.declared.place.Fault.{Fault}
-use Rattle.diagram_terms.specs.Dimension.{dimension_of}
+use Rattle.diagram_terms.specs.declared.limits.TheConstants.{GREATEST_DIM, MAX_GENERATORS}
 use Rattle.diagram_terms.specs.GeneratorTypes.{label_of, type_of_generator}
-use Rattle.diagram_terms.specs.Slices.{have_one_boundary}
+use Rattle.diagram_terms.specs.Obstacles.{Obstacle, dim_differs, not_parallel, dim_limit, count_limit, ill_typed, obstacle}
 use Rattle.diagram_terms.specs.Tree.{Tree}
-use Rattle.diagram_terms.specs.Typing.{Generator, IsGoodSignature, first_fault_in, generator_dim}
+use Rattle.diagram_terms.specs.Typing.{Generator, IsGoodSignature, generator_dim}
 use Rattle.hashcons.specs.Contents.{Contents, Grows, IsDiagramOf, diagram_at}
 use Rattle.typecheck.specs.declared.refusal.AddRefusal.{AddRefusal}
 use Rattle.typecheck.specs.declared.refusal.AddRefusal.TheVariants as add
-use Rattle.typecheck.specs.Outcomes.{add_outcome, add_refusal, answer_of, boundary_refusal, count_refusal, end_refusal, first_refusal, typing_refusal, unless}
+use Rattle.typecheck.specs.Outcomes.{IsAnswer, add_outcome, answer_of, refusal_by}
 use Rattle.typecheck.specs.Signatures.{AreGoodOver, Entry, IsBoundaryOf, IsGoodOver, SignatureState, entry_of, generator_in, generators_in, no_entry}
 use Rattle.typecheck.proofs.GoodSignatures.{boundary-kept, generator-kept}
 use Rattle.workspace_json.specs.declared.refusal.Refusal.{Refusal}
-use Rattle.workspace_json.specs.declared.refusal.Refusal.TheVariants as refusal
 use Rattle.workspace_json.specs.declared.reply.Reply.{Reply}
 use Rattle.workspace_json.specs.declared.reply.Reply.TheVariants as reply
 use Rattle.workspace_json.specs.Sessions.{Session, Stepped, change}
-use Rattle.workspace_json.specs.Steps.{◌>>=◌, Changed, allowed_boundary, both, generator_change, known_boundary, new_name, no_fault, refuse_unless, well_typed_boundary}
+use Rattle.workspace_json.specs.Steps.{◌>>=◌, Changed, both, generator_change, known_boundary, new_name, no_obstacle, refusal_of}
 use Rattle.workspace_json.specs.Workspaces.{IsWorkspace, NamedGenerator, Workspace, generators_of, with_generator}
 use Rattle.workspace_lists.specs.declared.names.Meaning.TheVariants as meaning
 use Rattle.workspace_lists.specs.declared.workspace.Generator.{Generator as Kept}
-use Rattle.workspace_lists.specs.Held.{IsGeneratorOf, generator_over, generators_over}
+use Rattle.workspace_lists.specs.Held.{IsGeneratorOf, generator_over, generators_over, trees_in}
 use Rattle.workspace_lists.specs.Names.{knows}
 use Rattle.session_undo.specs.Added.{stop_of}
 use Rattle.session_undo.specs.declared.edit.Edit.{Edit}
 use Rattle.session_undo.specs.declared.edit.Edit.TheVariants as edit
 use Rattle.session_undo.specs.declared.state.State.{State}
 use Rattle.session_undo.specs.declared.stop.Stop.{Stop}
-use Rattle.session_undo.specs.Edits.{edited, trees_in}
+use Rattle.session_undo.specs.declared.stop.Stop.TheVariants as stop
+use Rattle.session_undo.specs.Edits.{edited}
 use Rattle.session_undo.specs.Meanings.{generator}
 use Rattle.session_undo.specs.States.{CanAccept, ComesTo, HasRoomForEdit, HasRoomForOne, IsState, entries_over, lists_of, present_of}
-use Rattle.session_undo.proofs.GrowthLemmas.{good-kept, history-kept, telling-kept, trees-kept}
-use Rattle.session_undo.proofs.HistoryLemmas.{diagrams_put-le}
-use Rattle.session_undo.proofs.RuleLemmas.{IsNew, with_generator_rule}
+use Rattle.workspace_lists.proofs.ForCallers.{trees-kept}
+use Rattle.session_undo.proofs.GrownSessions.{good-kept, history-kept, telling-kept}
+use Rattle.session_undo.proofs.Histories.{diagrams_put-le}
+use Rattle.session_undo.proofs.WorkspaceRules.{IsNew, with_generator_rule}
 use Rattle.session_undo.proofs.StateGrowth.{grown}
-use Rattle.session_undo.proofs.StateLemmas.{entry, generators_are}
-
--- ---- refusals of a signature as those of a command
-
-abbrev refusal_in : AddRefusal → Refusal
-refusal_in add.DimDiffers = refusal.DimDiffers
-refusal_in add.NotParallel = refusal.NotParallel
-refusal_in add.DimLimit = refusal.DimLimit
-refusal_in add.CountLimit = refusal.CountLimit
-refusal_in (add.IllTyped f) = refusal.IllTyped f
-refusal_in add.NoMemory = refusal.NameBad
-
-abbrev as_test : Option AddRefusal → Result (Unit {0}) Refusal
-as_test None = Ok tt
-as_test (Some r) = Err (refusal_in r)
-
-test_first : (a b : Option AddRefusal) → as_test (first_refusal a b) ≡ (as_test a >>= λ _. as_test b)
-test_first None b = refl
-test_first (Some r) b = refl
-
-test_unless : (b : Bool) (r : AddRefusal) → as_test (unless b r) ≡ refuse_unless b (refusal_in r)
-test_unless true r = refl
-test_unless false r = refl
-
-test_end : (o : Option Fault) → as_test (option_map (λ f. add.IllTyped f) o) ≡ no_fault o
-test_end None = refl
-test_end (Some f) = refl
-
-and_then : (a a' b b' : Result (Unit {0}) Refusal) → a ≡ a' → b ≡ b' → (a >>= λ _. b) ≡ (a' >>= λ _. b')
-and_then a a' b b' e f = λ i. e i >>= λ _. f i
-
-allowed_by : (g : Generator) → as_test (boundary_refusal g) ≡ allowed_boundary g
-allowed_by None = refl
-allowed_by (Some (s, t)) =
-    let dims = unless (dimension_of s == dimension_of t) add.DimDiffers in
-    let ends = unless (have_one_boundary s t) add.NotParallel in
-    let low = unless (nat_le (suc (dimension_of s)) 6) add.DimLimit in
-    test_first dims (first_refusal ends low)
-    ∙ and_then (as_test dims) (refuse_unless (dimension_of s == dimension_of t) refusal.DimDiffers) (as_test (first_refusal ends low)) _
-    (test_unless (dimension_of s == dimension_of t) add.DimDiffers)
-    (test_first ends low
-    ∙ and_then (as_test ends) (refuse_unless (have_one_boundary s t) refusal.NotParallel) (as_test low) (refuse_unless (nat_le (suc (dimension_of s)) 6) refusal.DimLimit)
-    (test_unless (have_one_boundary s t) add.NotParallel) (test_unless (nat_le (suc (dimension_of s)) 6) add.DimLimit))
-
-typed_by : (W : Workspace) (g : Generator) → as_test (typing_refusal (generators_of W) g) ≡ well_typed_boundary W g
-typed_by W None = refl
-typed_by W (Some (s, t)) =
-    test_first (end_refusal (generators_of W) s) (end_refusal (generators_of W) t)
-    ∙ and_then (as_test (end_refusal (generators_of W) s)) (no_fault (first_fault_in (generators_of W) s)) (as_test (end_refusal (generators_of W) t)) (no_fault (first_fault_in (generators_of W) t))
-    (test_end (first_fault_in (generators_of W) s)) (test_end (first_fault_in (generators_of W) t))
+use Rattle.session_undo.proofs.StateInvariant.{entry, generators_are}
 
 -- ---- the command, test by test
 
 abbrev pub added_to : Workspace → List ℕ → Generator → Changed
 added_to W name g = record { reply = reply.Generator (generator_dim g) name (length W.generators); workspace = with_generator W name g }
 
--- the tests behind the boundary
+-- what the generator comes to, where this stands in its way
+abbrev put_unless : Workspace → List ℕ → Generator → Option Obstacle → Result Changed Refusal
+put_unless W name g o = no_obstacle o >>= λ _. Ok (added_to W name g)
+
+-- the test behind the boundary
 abbrev tested : Workspace → List ℕ → Generator → Result Changed Refusal
-tested W name g =
-    allowed_boundary g >>= λ _. (refuse_unless (nat_lt (length W.generators) 60000) refusal.CountLimit >>= λ _. (well_typed_boundary W g >>= λ _. Ok (added_to W name g)))
+tested W name g = put_unless W name g (obstacle (generators_of W) g)
 
 module _ (W : Workspace) (name : List ℕ) (source target : Option (List ℕ)) where
   abbrev named : Unit {0} → Result Changed Refusal
@@ -116,59 +69,65 @@ module _ (W : Workspace) (name : List ℕ) (source target : Option (List ℕ)) w
   unfolding generator_change
   generator_tested g e f = ap (λ (x : Result (Unit {0}) Refusal). x >>= named) e ∙ ap (λ x. x >>= tested W name) f
 
-split_tests : (a b c : Result (Unit {0}) Refusal) (x : Changed) → ((a >>= λ _. (b >>= λ _. c)) >>= λ _. Ok x) ≡ (a >>= λ _. (b >>= λ _. (c >>= λ _. Ok x)))
-split_tests (Ok u) (Ok v) c x = refl
-split_tests (Ok u) (Err r) c x = refl
-split_tests (Err r) b c x = refl
-
-tested_by : (W : Workspace) (name : List ℕ) (g : Generator) → tested W name g ≡ (as_test (add_refusal (generators_of W) g) >>= λ _. Ok (added_to W name g))
-tested_by W name g =
-    let gs = generators_of W in
-    let count : refuse_unless (nat_lt (length W.generators) 60000) refusal.CountLimit ≡ as_test (count_refusal gs) =
-    ap (λ n. refuse_unless (nat_lt n 60000) refusal.CountLimit) (sym (length-map W.generators (λ (x : NamedGenerator). x.generator))) ∙ sym (test_unless (nat_lt (length gs) 60000) add.CountLimit) in
-    (λ i. sym (allowed_by g) i >>= λ _. (count i >>= λ _. (sym (typed_by W g) i >>= λ _. Ok (added_to W name g))))
-    ∙ sym (split_tests (as_test (boundary_refusal g)) (as_test (count_refusal gs)) (as_test (typing_refusal gs g)) (added_to W name g))
-    ∙ ap (λ (x : Result (Unit {0}) Refusal). x >>= λ _. Ok (added_to W name g))
-    (sym (test_first (boundary_refusal g) (first_refusal (count_refusal gs) (typing_refusal gs g))
-    ∙ and_then (as_test (boundary_refusal g)) (as_test (boundary_refusal g)) (as_test (first_refusal (count_refusal gs) (typing_refusal gs g))) (as_test (count_refusal gs) >>= λ _. as_test (typing_refusal gs g)) refl
-    (test_first (count_refusal gs) (typing_refusal gs g))))
-
 -- ---- what was answered
 
-refused_answer : (x : Label) (o : Option AddRefusal) (r : AddRefusal) → answer_of x o ≡ Err r → o ≡ Some r
-refused_answer x None r e = absurd (let z : ⊥ = cc in z)
-refused_answer x (Some q) r e = let h : q ≡ r = cc in ap Some h
-
-given_answer : (x y : Label) (o : Option AddRefusal) → answer_of x o ≡ Ok y → (o ≡ None) × (y ≡ x)
+given_answer : (x y : Label) (o : Option Obstacle) → answer_of x o ≡ Ok y → (o ≡ None) × (y ≡ x)
 given_answer x y None e = let h : y ≡ x = cc in (refl, h)
 given_answer x y (Some q) e = absurd (let z : ⊥ = cc in z)
 
+-- what a signature refuses, the command refuses
+same_refusal : (o : Obstacle) → stop.Refused (refusal_of o) ≡ stop_of (refusal_by o)
+same_refusal dim_differs = refl
+same_refusal not_parallel = refl
+same_refusal dim_limit = refl
+same_refusal count_limit = refl
+same_refusal (ill_typed f) = refl
+
+module _ (W : Workspace) (name : List ℕ) (g : Generator) (S : Session) where
+  stopped_by : (x : Label) (o : Option Obstacle) (r : AddRefusal) → answer_of x o ≡ Err r → ComesTo (change S (put_unless W name g o)) S S (Err (stop_of r))
+  stopped_by x None r e = absurd (let z : ⊥ = cc in z)
+  stopped_by x (Some o) r e =
+      let same : refusal_by o ≡ r = cc in
+      subst (λ (q : Stop). ComesTo (change S (put_unless W name g (Some o))) S S (Err q)) (same_refusal o ∙ ap stop_of same) refl
+
 module _ (W : Workspace) (name : List ℕ) (source target : Option (List ℕ)) (g : Generator) (new : new_name W name ≡ Ok tt) (known : known_boundary W (both source target) ≡ Ok g) where
-  whole : (o : Option AddRefusal) → add_refusal (generators_of W) g ≡ o → generator_change W name source target ≡ (as_test o >>= λ _. Ok (added_to W name g))
-  whole o e = generator_tested W name source target g new known ∙ tested_by W name g ∙ ap (λ p. as_test p >>= λ _. Ok (added_to W name g)) e
-
-  refused : (S : Session) (r : AddRefusal) → add_outcome (generators_of W) g ≡ Err r → change S (generator_change W name source target) ≡ record { reply = reply.Refused (refusal_in r); session = S }
-  refused S r e = ap (change S) (whole (Some r) (refused_answer (label_of (length (generators_of W)) g) (add_refusal (generators_of W) g) r e))
-
   pub stopped_by_add : (S : Session) (r : AddRefusal) → (r ≡ add.NoMemory) ⊎ (add_outcome (generators_of W) g ≡ Err r)
       → ComesTo (change S (generator_change W name source target)) S S (Err (stop_of r))
-  stopped_by_add S add.NoMemory h = refl
-  stopped_by_add S add.DimDiffers (inr e) = refused S add.DimDiffers e
-  stopped_by_add S add.NotParallel (inr e) = refused S add.NotParallel e
-  stopped_by_add S add.DimLimit (inr e) = refused S add.DimLimit e
-  stopped_by_add S add.CountLimit (inr e) = refused S add.CountLimit e
-  stopped_by_add S (add.IllTyped f) (inr e) = refused S (add.IllTyped f) e
-  stopped_by_add S add.DimDiffers (inl e) = absurd (let z : ⊥ = cc in z)
-  stopped_by_add S add.NotParallel (inl e) = absurd (let z : ⊥ = cc in z)
-  stopped_by_add S add.DimLimit (inl e) = absurd (let z : ⊥ = cc in z)
-  stopped_by_add S add.CountLimit (inl e) = absurd (let z : ⊥ = cc in z)
-  stopped_by_add S (add.IllTyped f) (inl e) = absurd (let z : ⊥ = cc in z)
+  stopped_by_add S r (inl e) = subst (λ (q : AddRefusal). ComesTo (change S (generator_change W name source target)) S S (Err (stop_of q))) (sym e) refl
+  stopped_by_add S r (inr e) =
+      subst (λ (c : Result Changed Refusal). ComesTo (change S c) S S (Err (stop_of r))) (sym (generator_tested W name source target g new known))
+      (stopped_by W name g S (label_of (length (generators_of W)) g) (obstacle (generators_of W) g) r e)
 
   pub done_by_add : (x : Label) → add_outcome (generators_of W) g ≡ Ok x → generator_change W name source target ≡ Ok (added_to W name g)
-  done_by_add x e = whole None (given_answer (label_of (length (generators_of W)) g) x (add_refusal (generators_of W) g) e).0
+  done_by_add x e =
+      generator_tested W name source target g new known
+      ∙ ap (put_unless W name g) (given_answer (label_of (length (generators_of W)) g) x (obstacle (generators_of W) g) e).0
 
 pub label_by_add : (gs : List Generator) (g : Generator) (x : Label) → add_outcome gs g ≡ Ok x → x ≡ label_of (length gs) g
-label_by_add gs g x e = (given_answer (label_of (length gs) g) x (add_refusal gs g) e).1
+label_by_add gs g x e = (given_answer (label_of (length gs) g) x (obstacle gs g) e).1
+
+answered_by : (wanted : Result Label AddRefusal) (x : Label) → IsAnswer wanted (Ok x) → wanted ≡ Ok x
+answered_by wanted x (inl e) = sym e
+answered_by wanted x (inr e) = absurd (let z : ⊥ = cc in z)
+
+-- the number of a generator that was added is that of the generators before it
+pub number_by_add : (c : Contents) (sig : SignatureState) (b : Option (ℕ × ℕ)) (x : Label) → IsAnswer (add_outcome (generators_in c sig.entries) (generator_in c b)) (Ok x)
+    → x.number ≡ length sig.entries
+number_by_add c sig b x h =
+    ap (λ (l : Label). l.number) (label_by_add (generators_in c sig.entries) (generator_in c b) x (answered_by (add_outcome (generators_in c sig.entries) (generator_in c b)) x h))
+    ∙ length-map sig.entries (λ (y : Entry). generator_in c y.boundary)
+
+-- and its type is that of the generator that comes last
+pub type_by_number : (old new : Contents) (es more : List Entry) (b : Option (ℕ × ℕ)) (n : ℕ) → Grows old new → IsBoundaryOf old b
+    → more ≡ es ++ entry_of old b ∷ [] → n ≡ length es
+    → type_of_generator n (get_or (generators_in new more) n None) ≡ type_of_generator (length es) (generator_in old b)
+type_by_number old new es more b n grows of added number =
+    let last : get_or (generators_in new more) n None ≡ generator_in new b =
+    ap (λ xs. get_or (generators_in new xs) n None) added
+    ∙ ap (λ gs. get_or gs n None) (map-append (λ (y : Entry). generator_in new y.boundary) es (entry_of old b ∷ []))
+    ∙ get_or_push (generators_in new es) (generator_in new b) None n (length-map es (λ (y : Entry). generator_in new y.boundary) ∙ sym number) in
+    let g = last ∙ generator-kept old new b grows of in
+    λ i. type_of_generator (number i) (g i)
 
 -- a command that stopped leaves the session as it was
 pub stopped_after : (w : Stepped) (S T : Session) (e e' : Stop) → T ≡ S → e ≡ e' → ComesTo w S S (Err e') → ComesTo w S T (Err e)
@@ -213,7 +172,7 @@ module _ (u : State) (is : IsState u) (c : Contents) (sig : SignatureState) (gro
     dim = dim ∙ ap generator_dim (sym boundary_is);
   }
 
-  low : generator_dim (generator_in u.store b) ≤ 6
+  low : generator_dim (generator_in u.store b) ≤ GREATEST_DIM
   low =
       let gs = u.entries.workspace.generators.items in
       let n = length_push (entries_over gs) (entry g) in
@@ -225,7 +184,7 @@ module _ (u : State) (is : IsState u) (c : Contents) (sig : SignatureState) (gro
       let d = ap (λ (e : Entry). e.dim) at in
       omega (arith, dim)
 
-  few : length (with_generator (present_of u) g.name (generator_in u.store b)).generators ≤ 60000
+  few : length (with_generator (present_of u) g.name (generator_in u.store b)).generators ≤ MAX_GENERATORS
   few =
       let gs = u.entries.workspace.generators.items in
       let k = over.few in

@@ -4,6 +4,7 @@ use Rattle.std.specs.List.{insert, remove}
 use Rattle.std.proofs.lemmas.List.{length_push, map-append}
 use Rattle.std.proofs.lemmas.List.Edits.{insert_end}
 use Rattle.std.proofs.lemmas.List.Elements.{All-push}
+use Rattle.diagram_terms.specs.declared.limits.TheConstants.{GREATEST_DIM}
 use Rattle.diagram_terms.specs.Dimension.{dimension_of}
 use Rattle.diagram_terms.specs.Decoded.{dia}
 use Rattle.diagram_terms.specs.Family.{length_of}
@@ -21,16 +22,16 @@ use Rattle.workspace_json.specs.Workspaces.{IsWorkspace, NamedDiagram, Workspace
 use Rattle.workspace_lists.specs.declared.names.Names.{Names}
 use Rattle.workspace_lists.specs.declared.workspace.Generator.{Generator}
 use Rattle.workspace_lists.specs.declared.workspace.Named.{Named}
-use Rattle.workspace_lists.specs.Held.{diagram_over}
+use Rattle.workspace_lists.specs.Held.{AreHeld, Lists, diagram_over, trees_in}
 use Rattle.workspace_lists.specs.Names.{knows}
 use Rattle.session_undo.specs.declared.edit.Edit.{Edit}
 use Rattle.session_undo.specs.declared.edit.Edit.TheVariants as edit
 use Rattle.session_undo.specs.declared.state.State.{State}
-use Rattle.session_undo.specs.Edits.{AreHeld, AreKnown, IsGoodAt, Lists, edited, trees_in}
+use Rattle.session_undo.specs.Edits.{AreKnown, IsGoodAt, edited}
 use Rattle.session_undo.specs.States.{CanAccept, HasRoomForEdit, HasRoomForOne, IsState, lists_of, present_of}
-use Rattle.session_undo.proofs.HistoryLemmas.{diagrams_put-le}
+use Rattle.session_undo.proofs.Histories.{diagrams_put-le}
 use Rattle.session_undo.proofs.TreeLengths.{tree_length}
-use Rattle.session_undo.proofs.RuleLemmas.{IsNew, with_diagram_rule}
+use Rattle.session_undo.proofs.WorkspaceRules.{IsNew, with_diagram_rule}
 
 -- ---- a diagram is stored
 
@@ -47,7 +48,7 @@ module _ (s : State) (is : IsState s) (d : Named) (place : ℕ) (last : place �
   longer : (edited (lists_of s.entries) put).diagrams ≡ s.entries.workspace.diagrams.items ++ d ∷ []
   longer = ap (λ n. insert s.entries.workspace.diagrams.items n d) last ∙ insert_end s.entries.workspace.diagrams.items d
 
-  pub can_put_diagram : IsNew (present_of s) d.name → IsWellTyped (generators_of (present_of s)) (diagram_at s.store d.root) → dimension_of (diagram_at s.store d.root) ≤ 6
+  pub can_put_diagram : IsNew (present_of s) d.name → IsWellTyped (generators_of (present_of s)) (diagram_at s.store d.root) → dimension_of (diagram_at s.store d.root) ≤ GREATEST_DIM
       → IsDiagramOf s.store d.root → knows s.entries.names d.name ≡ true → CanAccept s put
   can_put_diagram new typed low of_store known =
       let here = is.history.present in record {

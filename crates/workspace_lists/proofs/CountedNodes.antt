@@ -18,7 +18,7 @@ use Rattle.workspace_json.specs.Workspaces.{Workspace, roots_of}
 use Rattle.workspace_lists.specs.Held.{diagram_over, generator_over, workspace_in}
 use Rattle.workspace_lists.specs.Roots.{is_diagram_node, root_ids}
 use Rattle.workspace_lists.specs.declared.workspace.Workspace.{Workspace as Lists}
-use Rattle.workspace_lists.proofs.HeldLemmas.{root_ids-trees}
+use Rattle.workspace_lists.proofs.HeldRoots.{root_ids-trees}
 
 chosen : (k : ℕ) (l from to : Label) (a b c d h x y : List ℕ)
     → is_diagram_node (if k == 0 then node.Label l else (if k == 1 then node.Diagram a b c d else (

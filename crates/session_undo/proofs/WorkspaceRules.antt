@@ -4,7 +4,6 @@ use Rattle.std.specs.List.{count_by, filter, insert, remove, flat_map}
 use Rattle.std.specs.Prelude.{bytes_eq}
 use Rattle.std.proofs.lemmas.List.{append_assoc, drop_at, length_push, map-append, take_at}
 use Rattle.std.proofs.lemmas.List.Elements.{All-append, All-drop, All-map, All-push, All-take, All-weaker}
-use Rattle.diagram_terms.specs.declared.label.Label.{Label}
 use Rattle.diagram_terms.specs.Decoded.{dia}
 use Rattle.diagram_terms.specs.Dimension.{dimension_of}
 use Rattle.diagram_terms.specs.Points.{Point, points}
@@ -16,8 +15,9 @@ use Rattle.workspace_json.specs.declared.refusal.Refusal.TheVariants as refusal
 use Rattle.workspace_json.specs.Steps.{◌>>=◌, new_name, refuse_unless}
 use Rattle.workspace_json.specs.Workspaces.{IsWorkspace, NamedDiagram, NamedGenerator, Workspace, diagram_named, first_there, generators_of, names_of, term, type_named, with_diagram, with_generator}
 use Rattle.session_undo.specs.Meanings.{free, stands_by, stands_for}
-use Rattle.session_undo.proofs.NameLemmas.{count-append, count-cons, count-generator, free_is_unused, is_name}
+use Rattle.session_undo.proofs.GainedNames.{count-append, count-cons, count-generator, free_is_unused, is_name}
 use Rattle.std.proofs.lemmas.Slice.Eq.{bytes_eq-Decides}
+use Rattle.diagram_terms.specs.declared.limits.TheConstants.{GREATEST_DIM, MAX_GENERATORS}
 
 -- ---- a new name
 
@@ -84,7 +84,7 @@ well_typed-more gs hs t h = record {
 
 -- ---- one diagram more
 
-pub with_diagram_rule : (W : Workspace) (name : List ℕ) (t : Tree) → IsNew W name → IsWellTyped (generators_of W) t → dimension_of t ≤ 6 → IsWorkspace W → IsWorkspace (with_diagram W name t)
+pub with_diagram_rule : (W : Workspace) (name : List ℕ) (t : Tree) → IsNew W name → IsWellTyped (generators_of W) t → dimension_of t ≤ GREATEST_DIM → IsWorkspace W → IsWorkspace (with_diagram W name t)
 with_diagram_rule W name t new typed low h =
     let d : NamedDiagram = record { name = name; tree = t } in
     let names : names_of (with_diagram W name t) ≡ names_of W ++ name ∷ [] =
@@ -97,7 +97,7 @@ with_diagram_rule W name t new typed low h =
       signature = h.signature;
       typed = All-push (λ (e : NamedDiagram). IsWellTyped (generators_of W) e.tree) W.diagrams d h.typed typed;
       generator_dims = h.generator_dims;
-      diagram_dims = All-push (λ (e : NamedDiagram). dimension_of e.tree ≤ 6) W.diagrams d h.diagram_dims low;
+      diagram_dims = All-push (λ (e : NamedDiagram). dimension_of e.tree ≤ GREATEST_DIM) W.diagrams d h.diagram_dims low;
       few = h.few;
     }
 
@@ -114,7 +114,7 @@ all_left P xs ys h = subst (All P) (take_at xs ys (length xs) refl) (All-take P 
 pub all_right : {X : Type 0} (P : X → Type 0) (xs ys : List X) → All P (xs ++ ys) → All P ys
 all_right P xs ys h = subst (All P) (drop_at xs ys (length xs) refl) (All-drop P (length xs) (xs ++ ys) h)
 
-pub with_generator_rule : (W : Workspace) (name : List ℕ) (g : Generator) → IsNew W name → IsGoodSignature (generators_of (with_generator W name g)) → generator_dim g ≤ 6 → length (with_generator W name g).generators ≤ 60000 → IsWorkspace W → IsWorkspace (with_generator W name g)
+pub with_generator_rule : (W : Workspace) (name : List ℕ) (g : Generator) → IsNew W name → IsGoodSignature (generators_of (with_generator W name g)) → generator_dim g ≤ GREATEST_DIM → length (with_generator W name g).generators ≤ MAX_GENERATORS → IsWorkspace W → IsWorkspace (with_generator W name g)
 with_generator_rule W name g new good low few h =
     let x : NamedGenerator = record { name = name; generator = g } in
     let IsGood : List ℕ → Type 0 = λ n. is_good_name n ≡ true in
@@ -134,7 +134,7 @@ with_generator_rule W name g new good low few h =
       typed = subst (λ (gs : List Generator). All (λ (e : NamedDiagram). IsWellTyped gs e.tree) W.diagrams) (sym gens)
           (All-weaker (λ (e : NamedDiagram). IsWellTyped (generators_of W) e.tree) (λ (e : NamedDiagram). IsWellTyped (generators_of W ++ g ∷ []) e.tree)
           (λ e k. well_typed-more (generators_of W) (g ∷ []) e.tree k) W.diagrams h.typed);
-      generator_dims = subst (All (λ (y : Generator). generator_dim y ≤ 6)) (sym gens) (All-push (λ (y : Generator). generator_dim y ≤ 6) (generators_of W) g h.generator_dims low);
+      generator_dims = subst (All (λ (y : Generator). generator_dim y ≤ GREATEST_DIM)) (sym gens) (All-push (λ (y : Generator). generator_dim y ≤ GREATEST_DIM) (generators_of W) g h.generator_dims low);
       diagram_dims = h.diagram_dims;
       few = few;
     }

@@ -1,6 +1,7 @@
 -- Commands, test by test.
 use Rattle.std.proofs.Common.{◌≡◌, ℕ, suc, ◌+◌, ◌<◌, ◌≤◌, List, [], ◌∷◌, length, map, Bool, true, false, Option, Some, None, Result, Ok, Err, refl, sym, ap, subst, ◌∙◌, arith}
 use Rattle.std.specs.Prelude.{nat_lt}
+use Rattle.diagram_terms.specs.declared.limits.TheConstants.{GREATEST_DIM}
 use Rattle.diagram_terms.specs.declared.place.Height.{Height}
 use Rattle.diagram_terms.specs.declared.place.Side.{Side}
 use Rattle.diagram_terms.specs.Completion.{same_tree}
@@ -41,7 +42,7 @@ comes_by S S' T a b r e f h = subst (λ (X : Session). ComesTo (change X b) X T 
 
 module _ (W : Workspace) (name of : List ℕ) where
   abbrev identity_found : Tree → Result Changed Refusal
-  identity_found t = refuse_unless (nat_lt (dimension_of t) 6) refusal.DimLimit >>= λ _. stored W word.Identity name (identity_diagram_tree t)
+  identity_found t = refuse_unless (nat_lt (dimension_of t) GREATEST_DIM) refusal.DimLimit >>= λ _. stored W word.Identity name (identity_diagram_tree t)
 
   abbrev identity_named : Unit {0} → Result Changed Refusal
   identity_named u = known W of >>= identity_found
@@ -54,7 +55,7 @@ module _ (W : Workspace) (name of : List ℕ) where
   unfolding identity_change
   identity_unknown r e f = ap (λ (x : Result (Unit {0}) Refusal). x >>= identity_named) e ∙ ap (λ x. x >>= identity_found) f
 
-  pub identity_tested : (t : Tree) (b : Bool) → new_name W name ≡ Ok tt → known W of ≡ Ok t → nat_lt (dimension_of t) 6 ≡ b
+  pub identity_tested : (t : Tree) (b : Bool) → new_name W name ≡ Ok tt → known W of ≡ Ok t → nat_lt (dimension_of t) GREATEST_DIM ≡ b
       → identity_change W name of ≡ (refuse_unless b refusal.DimLimit >>= λ _. stored W word.Identity name (identity_diagram_tree t))
   unfolding identity_change
   identity_tested t b e f g =

@@ -21,7 +21,7 @@ use Rattle.workspace_lists.specs.Roots.{boundary_ids, diagram_ids, end_ids, ends
 use Rattle.workspace_lists.specs.declared.workspace.Generator.{Generator}
 use Rattle.workspace_lists.specs.declared.workspace.Named.{Named}
 use Rattle.workspace_lists.specs.declared.workspace.Workspace.{Workspace}
-use Rattle.workspace_lists.proofs.HeldLemmas.{root_ids-trees}
+use Rattle.workspace_lists.proofs.HeldRoots.{root_ids-trees}
 
 -- ---- the ids of the generators before one
 

@@ -13,9 +13,10 @@ use Rattle.workspace_lists.specs.declared.workspace.Named.{Named}
 use Rattle.workspace_lists.specs.Names.{knows}
 use Rattle.session_undo.specs.declared.edit.Edit.{Edit}
 use Rattle.session_undo.specs.declared.edit.Edit.TheVariants as edit
-use Rattle.session_undo.specs.Edits.{AllFit, AreKnown, AreOpposite, Fits, HasType, IsGoodAt, IsWithin, LeadsBack, LeadsForth, Lists, diagrams_put, diagrams_put_by, edited, generators_put, put_by, trees_in, turns}
+use Rattle.workspace_lists.specs.Held.{Lists, trees_in}
+use Rattle.session_undo.specs.Edits.{AllFit, AreKnown, AreOfOppositeKinds, Fits, HasType, IsGoodAt, IsWithin, LeadsBack, LeadsForth, diagrams_put, diagrams_put_by, edited, generators_put, put_by, turns}
 use Rattle.session_undo.specs.States.{IsHistory, session_over}
-use Rattle.session_undo.proofs.EditLemmas.{all_last}
+use Rattle.session_undo.proofs.EditsBack.{all_last}
 
 -- ---- the last edit of a list
 
@@ -46,7 +47,7 @@ diagrams_put-le (e ∷ es) = let h = diagrams_put-le es in let k = puts_one e in
 
 -- ---- an edit and its opposite
 
-pub opposite_forth : (e i : Edit) → LeadsBack e → AreOpposite e i → LeadsForth i
+pub opposite_forth : (e i : Edit) → LeadsBack e → AreOfOppositeKinds e i → LeadsForth i
 opposite_forth edit.TakeGenerator (edit.PutGenerator g m) h o = tt
 opposite_forth (edit.PutGenerator g m) i h o = absurd h
 opposite_forth (edit.TakeDiagram place) (edit.PutDiagram at d) h o = tt
@@ -61,7 +62,7 @@ opposite_forth (edit.PutDiagram place d) edit.TakeGenerator h o = absurd o
 opposite_forth (edit.PutDiagram place d) (edit.PutGenerator g m) h o = absurd o
 opposite_forth (edit.PutDiagram place d) (edit.PutDiagram at e) h o = absurd o
 
-pub opposite_back : (e i : Edit) → LeadsForth e → AreOpposite e i → LeadsBack i
+pub opposite_back : (e i : Edit) → LeadsForth e → AreOfOppositeKinds e i → LeadsBack i
 opposite_back edit.TakeGenerator i h o = absurd h
 opposite_back (edit.PutGenerator g m) edit.TakeGenerator h o = tt
 opposite_back (edit.TakeDiagram place) (edit.PutDiagram at d) h o = tt
@@ -81,7 +82,7 @@ pub record AreBalanced (l : Lists) (e i : Edit) : Type 0 where
   pub generators : length (edited l e).generators + put_by i ≡ length l.generators + put_by e
   pub diagrams : length (edited l e).diagrams + diagrams_put_by i ≡ length l.diagrams + diagrams_put_by e
 
-pub balanced : (l : Lists) (e i : Edit) → IsWithin l e → AreOpposite e i → AreBalanced l e i
+pub balanced : (l : Lists) (e i : Edit) → IsWithin l e → AreOfOppositeKinds e i → AreBalanced l e i
 balanced l edit.TakeGenerator (edit.PutGenerator g m) w o =
     let n = length-take (length l.generators - 1) l.generators in record { generators = omega arith; diagrams = omega arith }
 balanced l (edit.PutGenerator g m) edit.TakeGenerator w o =
@@ -160,7 +161,7 @@ module _ (c : Contents) (old new : Names) (kept : (name : List ℕ) → knows ol
         subst (AllFit c m) (sym (last_first fs i))
         (record { within = within; type_of = type_of }, subst (λ (n : Lists). AllFit c n (reverse fs)) (sym back) h)
 
-    pub turned_back : (es fs : List Edit) → AreOpposite e i → IsWithin m i → HasType c m i → IsHistory c old l (es ++ e ∷ []) fs → IsHistory c new m es (fs ++ i ∷ [])
+    pub turned_back : (es fs : List Edit) → AreOfOppositeKinds e i → IsWithin m i → HasType c m i → IsHistory c old l (es ++ e ∷ []) fs → IsHistory c new m es (fs ++ i ∷ [])
     turned_back es fs opposite within type_of h = record {
       present = head_good es h.before;
       before = rest_good es h.before;
@@ -171,7 +172,7 @@ module _ (c : Contents) (old new : Names) (kept : (name : List ℕ) → knows ol
       forth = All-push LeadsForth fs i h.forth (opposite_forth e i (all_last LeadsBack es e h.back) opposite);
     }
 
-    pub turned_forth : (es fs : List Edit) → AreOpposite e i → IsWithin m i → HasType c m i → IsHistory c old l es (fs ++ e ∷ []) → IsHistory c new m (es ++ i ∷ []) fs
+    pub turned_forth : (es fs : List Edit) → AreOfOppositeKinds e i → IsWithin m i → HasType c m i → IsHistory c old l es (fs ++ e ∷ []) → IsHistory c new m (es ++ i ∷ []) fs
     turned_forth es fs opposite within type_of h = record {
       present = head_good fs h.after;
       before = more_good es h.present h.before;
@@ -183,7 +184,7 @@ module _ (c : Contents) (old new : Names) (kept : (name : List ℕ) → knows ol
     }
 
     -- the change is made, and what was undone is forgotten
-    pub turned_anew : (es fs : List Edit) → LeadsForth e → AreOpposite e i → IsWithin m i → HasType c m i → IsGoodAt c old (edited l e) → IsHistory c old l es fs → IsHistory c new m (es ++ i ∷ []) []
+    pub turned_anew : (es fs : List Edit) → LeadsForth e → AreOfOppositeKinds e i → IsWithin m i → HasType c m i → IsGoodAt c old (edited l e) → IsHistory c old l es fs → IsHistory c new m (es ++ i ∷ []) []
     turned_anew es fs forth opposite within type_of good h = record {
       present = subst (IsGoodAt c new) (sym made) (good-kept_names c old new (edited l e) kept good);
       before = more_good es h.present h.before;

@@ -1,16 +1,19 @@
 -- For callers: a workspace over a store that grew, and with one generator or diagram more.
-use Rattle.std.proofs.Common.{◌≡◌, ◌∙◌, ℕ, ◌<◌, List, [], ◌∷◌, ◌++◌, length, slice_get, Option, Some, None, refl, ap, subst, arith}
+use Rattle.std.proofs.Common.{◌≡◌, ◌∙◌, ℕ, ◌<◌, List, [], ◌∷◌, ◌++◌, length, slice_get, Option, Some, None, refl, sym, ap, subst, arith}
 use Rattle.std.proofs.lemmas.Option.{get_or_from_slice_get, slice_get_within}
 use Rattle.std.proofs.lemmas.List.Elements.{All-head, All-tail, All-weaker, All-push, All-same}
 use Rattle.std.specs.List.{All}
 use Rattle.diagram_terms.specs.Tree.{Tree}
+use Rattle.diagram_terms.specs.Typing.{generator_dim}
 use Rattle.hashcons.specs.declared.id.AnyId.{AnyId}
 use Rattle.hashcons.specs.declared.id.AnyId.TheVariants as id
 use Rattle.hashcons.specs.Contents.{Contents, Grows, IsDiagramOf, diagram_at}
 use Rattle.hashcons.specs.Ids.{GathersIds, IsOf}
 use Rattle.hashcons.specs.Listing.{AreOf}
-use Rattle.typecheck.specs.Signatures.{IsBoundaryOf, generator_in}
-use Rattle.workspace_lists.specs.Held.{IsGeneratorOf, IsHeld, diagrams_over, generators_over, workspace_in}
+use Rattle.typecheck.proofs.GoodSignatures.{boundary-kept, generator-kept}
+use Rattle.workspace_json.specs.Workspaces.{NamedDiagram, NamedGenerator}
+use Rattle.workspace_json.specs.Workspaces as trees
+use Rattle.workspace_lists.specs.Held.{AreHeld, IsGeneratorOf, IsHeld, Lists, diagrams_over, generators_over, trees_in}
 use Rattle.workspace_lists.specs.declared.workspace.Generator.{Generator}
 use Rattle.workspace_lists.specs.declared.workspace.Named.{Named}
 use Rattle.workspace_lists.specs.declared.workspace.Workspace.{Workspace}
@@ -18,49 +21,38 @@ use Rattle.workspace_lists.specs.declared.workspace.Workspace.{Workspace}
 -- ---- a store that grew
 
 module _ (old new : Contents) (g : Grows old new) where
-  pub boundary-kept : (b : Option (ℕ × ℕ)) → IsBoundaryOf old b → IsBoundaryOf new b
-  boundary-kept None of = tt
-  boundary-kept (Some (s, t)) of = record { source = g.diagrams s of.source; target = g.diagrams t of.target }
-
-  pub generator_in-kept : (b : Option (ℕ × ℕ)) → IsBoundaryOf old b → generator_in new b ≡ generator_in old b
-  generator_in-kept None of = refl
-  generator_in-kept (Some (s, t)) of =
-      ap (λ a. Some (a, diagram_at new t)) (g.diagram_trees s of.source)
-      ∙ ap (λ b. Some (diagram_at old s, b)) (g.diagram_trees t of.target)
-
-  pub generator-kept : (e : Generator) → IsGeneratorOf old e → IsGeneratorOf new e
-  generator-kept e h = record {
-    of_store = boundary-kept e.boundary h.of_store;
-    dim = let same = generator_in-kept e.boundary h.of_store in let was = h.dim in cc;
+  pub generator_of-kept : (e : Generator) → IsGeneratorOf old e → IsGeneratorOf new e
+  generator_of-kept e h = record {
+    of_store = boundary-kept old new e.boundary g h.of_store;
+    dim = h.dim ∙ ap generator_dim (sym (generator-kept old new e.boundary g h.of_store));
   }
 
-  pub held-kept : (w : Workspace) → IsHeld old w → IsHeld new w
-  held-kept w h = record {
-    generators = All-weaker (IsGeneratorOf old) (IsGeneratorOf new) generator-kept w.generators.items h.generators;
-    diagrams = All-weaker (λ (d : Named). IsDiagramOf old d.root) (λ (d : Named). IsDiagramOf new d.root) (λ d l. g.diagrams d.root l)
-        w.diagrams.items h.diagrams;
+  pub held-kept : (l : Lists) → AreHeld old l → AreHeld new l
+  held-kept l h = record {
+    generators = All-weaker (IsGeneratorOf old) (IsGeneratorOf new) generator_of-kept l.generators h.generators;
+    diagrams = All-weaker (λ (d : Named). IsDiagramOf old d.root) (λ (d : Named). IsDiagramOf new d.root) (λ d k. g.diagrams d.root k) l.diagrams h.diagrams;
   }
 
-  pub generators_over-kept : (gs : List Generator) → All (IsGeneratorOf old) gs → generators_over new gs ≡ generators_over old gs
+  generators_over-kept : (gs : List Generator) → All (IsGeneratorOf old) gs → generators_over new gs ≡ generators_over old gs
   generators_over-kept [] all = refl
   generators_over-kept (e ∷ gs) all =
-      let here = generator_in-kept e.boundary (All-head (IsGeneratorOf old) e gs all).of_store in
+      let here = generator-kept old new e.boundary g (All-head (IsGeneratorOf old) e gs all).of_store in
       let more = generators_over-kept gs (All-tail (IsGeneratorOf old) e gs all) in
-      cc
+      λ i. let x : NamedGenerator = record { name = e.name; generator = here i } in x ∷ more i
 
-  pub diagrams_over-kept : (ds : List Named) → All (λ (d : Named). IsDiagramOf old d.root) ds → diagrams_over new ds ≡ diagrams_over old ds
+  diagrams_over-kept : (ds : List Named) → All (λ (d : Named). IsDiagramOf old d.root) ds → diagrams_over new ds ≡ diagrams_over old ds
   diagrams_over-kept [] all = refl
   diagrams_over-kept (d ∷ ds) all =
-      let here = g.diagram_trees d.root (All-head (λ (d : Named). IsDiagramOf old d.root) d ds all) in
-      let more = diagrams_over-kept ds (All-tail (λ (d : Named). IsDiagramOf old d.root) d ds all) in
-      cc
+      let here = g.diagram_trees d.root (All-head (λ (e : Named). IsDiagramOf old e.root) d ds all) in
+      let more = diagrams_over-kept ds (All-tail (λ (e : Named). IsDiagramOf old e.root) d ds all) in
+      λ i. let x : NamedDiagram = record { name = d.name; tree = here i } in x ∷ more i
 
-  -- its trees are the same
-  pub workspace_in-kept : (w : Workspace) → IsHeld old w → workspace_in new w ≡ workspace_in old w
-  workspace_in-kept w h =
-      let first = generators_over-kept w.generators.items h.generators in
-      let second = diagrams_over-kept w.diagrams.items h.diagrams in
-      cc
+  -- the trees are the same
+  pub trees-kept : (l : Lists) → AreHeld old l → trees_in new l ≡ trees_in old l
+  trees-kept l h =
+      let first = generators_over-kept l.generators h.generators in
+      let second = diagrams_over-kept l.diagrams h.diagrams in
+      λ i. let w : trees.Workspace = record { generators = first i; diagrams = second i } in w
 
 -- ---- one more
 

@@ -9,7 +9,13 @@ use Rattle.diagram_terms.specs.GeneratorTypes.{type_of_generator}
 use Rattle.diagram_terms.specs.Tree.{Tree}
 use Rattle.diagram_terms.specs.Typing.{Generator}
 use Rattle.workspace_json.specs.Workspaces.{NamedDiagram, NamedGenerator, Workspace, diagram_named, first_there, names_of, type_named, with_generator}
-use Rattle.session_undo.specs.Meanings.{Gains, Stands, diagram, free, generator, stands_by, stands_for}
+use Rattle.session_undo.specs.Meanings.{Stands, diagram, free, generator, stands_by, stands_for}
+
+-- a workspace has one name more than another, and this name stands there for something
+pub record Gains (less more : Workspace) (name : List ℕ) (here : Stands) : Type 0 where
+  pub before : stands_for less name ≡ free
+  pub now : stands_for more name ≡ here
+  pub others : (other : List ℕ) → bytes_eq other name ≡ false → stands_for more other ≡ stands_for less other
 
 -- ---- tests of names
 
