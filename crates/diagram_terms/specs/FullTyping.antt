@@ -82,10 +82,6 @@ first_full_fault generators n X =
     first_of (option_map (λ p. fault.SquareAt p) (first_bad_place n X))
     (first_of (option_map (λ steps. fault.LooseAt steps) (first_loose_leg n X)) (first_full_point_fault generators n X))
 
--- the same of a tree
-abbrev pub first_full_fault_in : List Generator → Tree → Option Fault
-first_full_fault_in generators t = first_full_fault generators (dimension_of t) (dia (dimension_of t) t)
-
 -- at the point p of X stands the type of a generator, whose label it has
 pub record IsTypedAt (generators : List Generator) (n : ℕ) (X : Dia n) (p : Point) : Type 0 where
   pub label : is_generator generators p.label ≡ true

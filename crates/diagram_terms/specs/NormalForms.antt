@@ -28,6 +28,7 @@ pub record Parts (d : ℕ) : Type 0 where
   pub regs : List (Leg d)
   pub sings : List (Leg d)
 
+-- that of the regular slice j, and that of the singular slice k
 abbrev pub reg_part : (d : ℕ) → Parts d → ℕ → Leg d
 reg_part d p j = leg_at d p.regs j
 
@@ -57,6 +58,7 @@ abbrev pub is_kept : (d : ℕ) → Dia (suc d) → List (Leg (suc d)) → Parts 
 is_kept d T legs p k =
     not (is_identity d (fwd_between d T p k) && is_identity d (bwd_between d T p k)) || nat_lt 0 (length (slices_over d legs k))
 
+-- all the heights that are kept
 abbrev pub kept_heights : (d : ℕ) → Dia (suc d) → List (Leg (suc d)) → Parts d → List ℕ
 kept_heights d T legs p = filter (is_kept d T legs p) (upto (length T.sings))
 
@@ -81,6 +83,7 @@ abbrev pub parts_over : (d : ℕ) → (Dia d → List (Leg d) → Leg d) → Dia
 parts_over d normal T legs regs =
     record { regs = regs; sings = tab (λ k. normal (sing d T k) (ways_into d T legs regs k)) (length T.sings) }
 
+-- the diagram of the parts at all heights that are kept
 abbrev pub without_identities : (d : ℕ) → Dia (suc d) → List (Leg (suc d)) → Parts d → Leg (suc d)
 without_identities d T legs p = assembled d T p (kept_heights d T legs p)
 

@@ -9,6 +9,7 @@ unfoldable pub relabelled_arrow : (Label → Label) → (d : ℕ) → Arr d → 
 relabelled_arrow image zero f = record { from = image f.from; to = image f.to }
 relabelled_arrow image (suc d) f = on_arrow_slices d d (relabelled_arrow image d) f
 
+-- and of a diagram
 unfoldable pub relabelled : (Label → Label) → (d : ℕ) → Dia d → Dia d
 relabelled image zero x = image x
 relabelled image (suc d) X = on_slices d d (relabelled image d) (relabelled_arrow image d) X

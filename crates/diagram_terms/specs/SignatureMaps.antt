@@ -9,7 +9,7 @@ use Rattle.diagram_terms.specs.Suspension.{north, south, suspended}
 use Rattle.diagram_terms.specs.Tree.{Tree, point}
 use Rattle.diagram_terms.specs.Typing.{Generator}
 
--- a tree and a generator with each label replaced by its image
+-- a tree with each label replaced by its image, and a generator with its boundary so
 unfoldable pub relabelled_tree : (Label → Label) → Tree → Tree
 relabelled_tree image t = dia_tree (dimension_of t) (relabelled image (dimension_of t) (dia (dimension_of t) t))
 

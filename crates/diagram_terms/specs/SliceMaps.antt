@@ -7,6 +7,7 @@ use Rattle.diagram_terms.specs.Least.{Leg}
 abbrev pub on_slices : (d e : ℕ) → (Dia d → Dia e) → (Arr d → Arr e) → Dia (suc d) → Dia (suc e)
 on_slices d e o a X = record { regs = map o X.regs; sings = map o X.sings; fwds = map a X.fwds; bwds = map a X.bwds }
 
+-- the same of arrows
 abbrev pub on_arrow_slices : (d e : ℕ) → (Arr d → Arr e) → Arr (suc d) → Arr (suc e)
 on_arrow_slices d e a f = record { heights = f.heights; regs = map a f.regs; sings = map a f.sings }
 

@@ -4,16 +4,18 @@ use Rattle.diagram_terms.specs.declared.label.Label.{Label}
 use Rattle.diagram_terms.specs.Family.{Ends, Dia, Arr}
 use Rattle.diagram_terms.specs.SliceMaps.{on_slices, on_arrow_slices}
 
--- the two new labels of dimension 0, and what a label becomes: numbered after these, and one dimension higher
+-- the two new labels of dimension 0
 abbrev pub north : Label
 north = record { number = 0; dim = 0 }
 
 abbrev pub south : Label
 south = record { number = 1; dim = 0 }
 
+-- what a label becomes: it is numbered after these, and has one dimension more
 abbrev pub raised : Label → Label
 raised x = record { number = suc (suc x.number); dim = suc x.dim }
 
+-- the arrow of dimension 0 from x to y
 abbrev pub ends_of : Label → Label → Ends
 ends_of x y = record { from = x; to = y }
 
