@@ -22,7 +22,6 @@ pub mod NodeShapes
 pub mod NodeTests
 pub mod NotionsOnTrees
 pub mod Parts
-pub mod PrintedForms
 pub mod Printing
 pub mod Samples
 pub mod Shapes

@@ -1,7 +1,7 @@
 ghost use Rattle.std.specs.Prelude.{◌≡◌, ◌+◌, ◌<◌, ◌≤◌, length};
 ghost use Rattle.diagram_terms.specs.Dual.{IsMonotone, AreBelow, dual};
 
-use diagram_terms::{Items, dual_from};
+use diagram_terms::Items;
 
 /// Where each height of a source goes, counted from 0 in a target: numbers that do not fall.
 #[derive(Debug, Drop)]
@@ -22,7 +22,9 @@ impl Mono {
         ensures value { result ≡ dual self.now.heights j }
         ensures within { result ≤ length self.now.heights }
     {
-        dual_from(self.heights.as_slice(), 0, j)
+        self.heights
+            .as_slice()
+            .partition_point(|height| *height < j)
     }
 
     /// The heights that go to `k`: from the first number on, below the second.
