@@ -11,13 +11,19 @@ use Rattle.diagram_terms.specs.RankProgram.{members_of, least_by, links_of, clas
 -- ---- two loops that nothing orders
 
 apart_unsettled : ranks_under Unbiased (heights_of 0 apart) ≡ Err (unsettled (member 0 0) (member 2 0))
-apart_unsettled = unfold members_of least_by links_of classes comes_before all_links held chains first_on_cycle is_least are_apart first_pair_apart is_available next_member give ranks_given ranks_under in refl
+apart_unsettled =
+    unfold members_of least_by links_of classes comes_before all_links held chains first_on_cycle is_least are_apart
+    first_pair_apart is_available next_member give ranks_given ranks_under in refl
 
 apart_earlier : ranks_under Earlier (heights_of 0 apart) ≡ Ok earlier
-apart_earlier = unfold members_of least_by links_of classes comes_before all_links held chains first_on_cycle is_least are_apart first_pair_apart is_available next_member give ranks_given ranks_under in refl
+apart_earlier =
+    unfold members_of least_by links_of classes comes_before all_links held chains first_on_cycle is_least are_apart
+    first_pair_apart is_available next_member give ranks_given ranks_under in refl
 
 apart_later : ranks_under Later (heights_of 0 apart) ≡ Ok later
-apart_later = unfold members_of least_by links_of classes comes_before all_links held chains first_on_cycle is_least are_apart first_pair_apart is_available next_member give ranks_given ranks_under in refl
+apart_later =
+    unfold members_of least_by links_of classes comes_before all_links held chains first_on_cycle is_least are_apart
+    first_pair_apart is_available next_member give ranks_given ranks_under in refl
 
 -- ---- a class that reaches itself
 
@@ -28,4 +34,6 @@ winding = record {
 }
 
 winding_cyclic : ranks_under Unbiased winding ≡ Err (cyclic (member 0 0))
-winding_cyclic = unfold members_of least_by links_of classes comes_before all_links held chains first_on_cycle is_least are_apart first_pair_apart is_available next_member give ranks_given ranks_under in refl
+winding_cyclic =
+    unfold members_of least_by links_of classes comes_before all_links held chains first_on_cycle is_least are_apart
+    first_pair_apart is_available next_member give ranks_given ranks_under in refl

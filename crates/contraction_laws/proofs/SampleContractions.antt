@@ -87,7 +87,9 @@ beside = record {
 }
 
 beside_is : attached_at_target 1 (attached_at_target 1 (identity_diagram 1 (chain f g)) (0 ∷ []) (link f) (link f) a) (1 ∷ []) (link g) (link g) b ≡ beside
-beside_is = unfold swap put image arrow_image segment diagram_sum arrow_sum arrow_segment cone mid dual after comp ident no_dia no_arr in refl
+beside_is =
+    unfold swap put image arrow_image segment diagram_sum arrow_sum arrow_segment cone mid dual after comp ident no_dia no_arr in
+    refl
 
 abbrev pub at_once : Dia 2
 at_once = cospan 1 (chain f g) (changes f g a b) (chain a b) (changes f g a b) (chain f g)
@@ -101,15 +103,27 @@ to_at_once = record {
 
 -- both at once
 beside_contracted : contract 2 beside [] 0 [] ≡ Ok (record { result = at_once; arrow = to_at_once })
-beside_contracted = unfold members_of least_by links_of classes comes_before all_links held chains first_on_cycle is_least are_apart first_pair_apart is_available next_member give ranks_given ranks_under names place part part_leg enter_class leave_class apex_reg glued_apex glued_leg first_greatest first_above each_part colimit_of dual after comp ident no_dia no_arr segment diagram_sum arrow_sum to_one_height contract_from in refl
+beside_contracted =
+    unfold members_of least_by links_of classes comes_before all_links held chains first_on_cycle is_least are_apart
+    first_pair_apart is_available next_member give ranks_given ranks_under names place part part_leg enter_class leave_class
+    apex_reg glued_apex glued_leg first_greatest first_above each_part colimit_of dual after comp ident no_dia no_arr segment
+    diagram_sum arrow_sum to_one_height contract_from in refl
 
 -- there is no height 2
 beside_no_height : contract 2 beside [] 1 [] ≡ Err (no_height 0)
-beside_no_height = unfold members_of least_by links_of classes comes_before all_links held chains first_on_cycle is_least are_apart first_pair_apart is_available next_member give ranks_given ranks_under names place part part_leg enter_class leave_class apex_reg glued_apex glued_leg first_greatest first_above each_part colimit_of dual after comp ident no_dia no_arr segment diagram_sum arrow_sum to_one_height contract_from in refl
+beside_no_height =
+    unfold members_of least_by links_of classes comes_before all_links held chains first_on_cycle is_least are_apart
+    first_pair_apart is_available next_member give ranks_given ranks_under names place part part_leg enter_class leave_class
+    apex_reg glued_apex glued_leg first_greatest first_above each_part colimit_of dual after comp ident no_dia no_arr segment
+    diagram_sum arrow_sum to_one_height contract_from in refl
 
 -- the path leads to a diagram without the heights 1 and 2
 beside_no_slice : contract 2 beside (0 ∷ []) 1 [] ≡ Err (no_height 1)
-beside_no_slice = unfold members_of least_by links_of classes comes_before all_links held chains first_on_cycle is_least are_apart first_pair_apart is_available next_member give ranks_given ranks_under names place part part_leg enter_class leave_class apex_reg glued_apex glued_leg first_greatest first_above each_part colimit_of dual after comp ident no_dia no_arr segment diagram_sum arrow_sum to_one_height contract_from in refl
+beside_no_slice =
+    unfold members_of least_by links_of classes comes_before all_links held chains first_on_cycle is_least are_apart
+    first_pair_apart is_available next_member give ranks_given ranks_under names place part part_leg enter_class leave_class
+    apex_reg glued_apex glued_leg first_greatest first_above each_part colimit_of dual after comp ident no_dia no_arr segment
+    diagram_sum arrow_sum to_one_height contract_from in refl
 
 -- ---- in a slice: p beside f become p, and the legs go on to that
 
@@ -130,7 +144,11 @@ in_between_contracted : contract 2 in_between (0 ∷ []) 0 [] ≡ Ok (record {
     sings = record { heights = 0 ∷ 0 ∷ []; regs = same ∷ same ∷ []; sings = pair p p ∷ pair f p ∷ [] } ∷ [];
   };
 })
-in_between_contracted = unfold members_of least_by links_of classes comes_before all_links held chains first_on_cycle is_least are_apart first_pair_apart is_available next_member give ranks_given ranks_under names place part part_leg enter_class leave_class apex_reg glued_apex glued_leg first_greatest first_above each_part colimit_of dual after comp ident no_dia no_arr segment diagram_sum arrow_sum to_one_height contract_from in refl
+in_between_contracted =
+    unfold members_of least_by links_of classes comes_before all_links held chains first_on_cycle is_least are_apart
+    first_pair_apart is_available next_member give ranks_given ranks_under names place part part_leg enter_class leave_class
+    apex_reg glued_apex glued_leg first_greatest first_above each_part colimit_of dual after comp ident no_dia no_arr segment
+    diagram_sum arrow_sum to_one_height contract_from in refl
 
 -- ---- a and then c, on one loop
 
@@ -138,7 +156,11 @@ abbrev stacked : Dia 2
 stacked = attached_at_target 1 (type_over 1 (link f) (link f) a) (0 ∷ []) (link f) (link f) c
 
 stacked_clashes : contract 2 stacked [] 0 [] ≡ Err (refused (record { ranks = 0 ∷ []; cause = clash a c }))
-stacked_clashes = unfold type_over swap put image arrow_image arrow_segment cone mid members_of least_by links_of classes comes_before all_links held chains first_on_cycle is_least are_apart first_pair_apart is_available next_member give ranks_given ranks_under names place part part_leg enter_class leave_class apex_reg glued_apex glued_leg first_greatest first_above each_part colimit_of dual after comp ident no_dia no_arr segment diagram_sum arrow_sum to_one_height contract_from in refl
+stacked_clashes =
+    unfold type_over swap put image arrow_image arrow_segment cone mid members_of least_by links_of classes comes_before all_links
+    held chains first_on_cycle is_least are_apart first_pair_apart is_available next_member give ranks_given ranks_under names
+    place part part_leg enter_class leave_class apex_reg glued_apex glued_leg first_greatest first_above each_part colimit_of dual
+    after comp ident no_dia no_arr segment diagram_sum arrow_sum to_one_height contract_from in refl
 
 -- ---- p and then q, which nothing orders
 
@@ -146,7 +168,11 @@ abbrev loose : Dia 2
 loose = attached_at_target 1 (type_over 1 point point p) (0 ∷ []) point point q
 
 loose_unsettled : contract 2 loose [] 0 [] ≡ Err (refused (record { ranks = []; cause = order (unsettled (member 0 0) (member 2 0)) }))
-loose_unsettled = unfold type_over swap put image arrow_image arrow_segment cone mid members_of least_by links_of classes comes_before all_links held chains first_on_cycle is_least are_apart first_pair_apart is_available next_member give ranks_given ranks_under names place part part_leg enter_class leave_class apex_reg glued_apex glued_leg first_greatest first_above each_part colimit_of dual after comp ident no_dia no_arr segment diagram_sum arrow_sum to_one_height contract_from in refl
+loose_unsettled =
+    unfold type_over swap put image arrow_image arrow_segment cone mid members_of least_by links_of classes comes_before all_links
+    held chains first_on_cycle is_least are_apart first_pair_apart is_available next_member give ranks_given ranks_under names
+    place part part_leg enter_class leave_class apex_reg glued_apex glued_leg first_greatest first_above each_part colimit_of dual
+    after comp ident no_dia no_arr segment diagram_sum arrow_sum to_one_height contract_from in refl
 
 abbrev missing : Arr 1
 missing = record { heights = []; regs = same ∷ same ∷ same ∷ []; sings = [] }
@@ -159,13 +185,21 @@ loose_earlier : contract 2 loose [] 0 (Earlier ∷ []) ≡ Ok (record {
   result = cospan 1 point missing (chain p q) missing point;
   arrow = record { heights = 0 ∷ 0 ∷ []; regs = record { heights = []; regs = same ∷ []; sings = [] } ∷ record { heights = []; regs = same ∷ []; sings = [] } ∷ []; sings = placed 0 p ∷ placed 1 q ∷ [] };
 })
-loose_earlier = unfold type_over swap put image arrow_image arrow_segment cone mid members_of least_by links_of classes comes_before all_links held chains first_on_cycle is_least are_apart first_pair_apart is_available next_member give ranks_given ranks_under names place part part_leg enter_class leave_class apex_reg glued_apex glued_leg first_greatest first_above each_part colimit_of dual after comp ident no_dia no_arr segment diagram_sum arrow_sum to_one_height contract_from in refl
+loose_earlier =
+    unfold type_over swap put image arrow_image arrow_segment cone mid members_of least_by links_of classes comes_before all_links
+    held chains first_on_cycle is_least are_apart first_pair_apart is_available next_member give ranks_given ranks_under names
+    place part part_leg enter_class leave_class apex_reg glued_apex glued_leg first_greatest first_above each_part colimit_of dual
+    after comp ident no_dia no_arr segment diagram_sum arrow_sum to_one_height contract_from in refl
 
 loose_later : contract 2 loose [] 0 (Later ∷ []) ≡ Ok (record {
   result = cospan 1 point missing (chain q p) missing point;
   arrow = record { heights = 0 ∷ 0 ∷ []; regs = record { heights = []; regs = same ∷ []; sings = [] } ∷ record { heights = []; regs = same ∷ []; sings = [] } ∷ []; sings = placed 1 p ∷ placed 0 q ∷ [] };
 })
-loose_later = unfold type_over swap put image arrow_image arrow_segment cone mid members_of least_by links_of classes comes_before all_links held chains first_on_cycle is_least are_apart first_pair_apart is_available next_member give ranks_given ranks_under names place part part_leg enter_class leave_class apex_reg glued_apex glued_leg first_greatest first_above each_part colimit_of dual after comp ident no_dia no_arr segment diagram_sum arrow_sum to_one_height contract_from in refl
+loose_later =
+    unfold type_over swap put image arrow_image arrow_segment cone mid members_of least_by links_of classes comes_before all_links
+    held chains first_on_cycle is_least are_apart first_pair_apart is_available next_member give ranks_given ranks_under names
+    place part part_leg enter_class leave_class apex_reg glued_apex glued_leg first_greatest first_above each_part colimit_of dual
+    after comp ident no_dia no_arr segment diagram_sum arrow_sum to_one_height contract_from in refl
 
 -- ---- m, which parts f in two, and then q between these
 
@@ -173,7 +207,11 @@ abbrev winding : Dia 2
 winding = attached_at_target 1 (type_over 1 (link f) (chain f f) m) (1 ∷ []) point point q
 
 winding_cyclic : contract 2 winding [] 0 [] ≡ Err (refused (record { ranks = []; cause = order (cyclic (member 0 0)) }))
-winding_cyclic = unfold type_over swap put image arrow_image arrow_segment cone mid members_of least_by links_of classes comes_before all_links held chains first_on_cycle is_least are_apart first_pair_apart is_available next_member give ranks_given ranks_under names place part part_leg enter_class leave_class apex_reg glued_apex glued_leg first_greatest first_above each_part colimit_of dual after comp ident no_dia no_arr segment diagram_sum arrow_sum to_one_height contract_from in refl
+winding_cyclic =
+    unfold type_over swap put image arrow_image arrow_segment cone mid members_of least_by links_of classes comes_before all_links
+    held chains first_on_cycle is_least are_apart first_pair_apart is_available next_member give ranks_given ranks_under names
+    place part part_leg enter_class leave_class apex_reg glued_apex glued_leg first_greatest first_above each_part colimit_of dual
+    after comp ident no_dia no_arr segment diagram_sum arrow_sum to_one_height contract_from in refl
 
 -- ---- p and then q, made one, and parted again as q and then p: what is contracted is a braid
 
@@ -193,7 +231,11 @@ abbrev turned : Dia 2
 turned = attached_at_target 1 (type_over 1 point point q) (0 ∷ []) point point p
 
 turned_is : expanded 0 both 0 1 ≡ turned
-turned_is = unfold type_over swap put image arrow_image arrow_segment cone mid members_of least_by links_of classes comes_before all_links held chains first_on_cycle is_least are_apart first_pair_apart is_available next_member give ranks_given ranks_under names place part part_leg enter_class leave_class apex_reg glued_apex glued_leg first_greatest first_above each_part colimit_of dual after comp ident no_dia no_arr segment diagram_sum arrow_sum to_one_height contract_from in refl
+turned_is =
+    unfold type_over swap put image arrow_image arrow_segment cone mid members_of least_by links_of classes comes_before all_links
+    held chains first_on_cycle is_least are_apart first_pair_apart is_available next_member give ranks_given ranks_under names
+    place part part_leg enter_class leave_class apex_reg glued_apex glued_leg first_greatest first_above each_part colimit_of dual
+    after comp ident no_dia no_arr segment diagram_sum arrow_sum to_one_height contract_from in refl
 
 -- first made one, and then parted
 abbrev two_steps : Dia 3
@@ -208,4 +250,8 @@ braid : contract 3 two_steps [] 0 [] ≡ Ok (record {
   result = cospan 2 loose to_both both (expanding 0 both 0 1) turned;
   arrow = record { heights = 0 ∷ 0 ∷ []; regs = ident 2 loose ∷ ident 2 turned ∷ []; sings = ident 2 both ∷ ident 2 both ∷ [] };
 })
-braid = unfold type_over swap put image arrow_image arrow_segment cone mid members_of least_by links_of classes comes_before all_links held chains first_on_cycle is_least are_apart first_pair_apart is_available next_member give ranks_given ranks_under names place part part_leg enter_class leave_class apex_reg glued_apex glued_leg first_greatest first_above each_part colimit_of dual after comp ident no_dia no_arr segment diagram_sum arrow_sum to_one_height contract_from in refl
+braid =
+    unfold type_over swap put image arrow_image arrow_segment cone mid members_of least_by links_of classes comes_before all_links
+    held chains first_on_cycle is_least are_apart first_pair_apart is_available next_member give ranks_given ranks_under names
+    place part part_leg enter_class leave_class apex_reg glued_apex glued_leg first_greatest first_above each_part colimit_of dual
+    after comp ident no_dia no_arr segment diagram_sum arrow_sum to_one_height contract_from in refl

@@ -28,22 +28,38 @@ always D = true
 
 -- a beside b: one step at the height 0
 beside_steps : settle 1 always beside ≡ record { height = 0; contraction = record { result = at_once; arrow = to_at_once } } ∷ []
-beside_steps = unfold swap put image arrow_image arrow_segment cone mid members_of least_by links_of classes comes_before all_links held chains first_on_cycle is_least are_apart first_pair_apart is_available next_member give ranks_given ranks_under names place part part_leg enter_class leave_class apex_reg glued_apex glued_leg first_greatest first_above each_part colimit_of dual after comp ident no_dia no_arr segment diagram_sum arrow_sum to_one_height contract_from open_at first_open steps_of settle in refl
+beside_steps =
+    unfold swap put image arrow_image arrow_segment cone mid members_of least_by links_of classes comes_before all_links held
+    chains first_on_cycle is_least are_apart first_pair_apart is_available next_member give ranks_given ranks_under names place
+    part part_leg enter_class leave_class apex_reg glued_apex glued_leg first_greatest first_above each_part colimit_of dual after
+    comp ident no_dia no_arr segment diagram_sum arrow_sum to_one_height contract_from open_at first_open steps_of settle in refl
 
 -- what holds the step is what is stored for it
 beside_held : all_steps 2 beside (settle 1 always beside) ≡ cospan 2 beside to_at_once at_once (ident 2 at_once) at_once
-beside_held = unfold swap put image arrow_image arrow_segment cone mid members_of least_by links_of classes comes_before all_links held chains first_on_cycle is_least are_apart first_pair_apart is_available next_member give ranks_given ranks_under names place part part_leg enter_class leave_class apex_reg glued_apex glued_leg first_greatest first_above each_part colimit_of dual after comp ident no_dia no_arr segment diagram_sum arrow_sum to_one_height contract_from open_at first_open steps_of settle in refl
+beside_held =
+    unfold swap put image arrow_image arrow_segment cone mid members_of least_by links_of classes comes_before all_links held
+    chains first_on_cycle is_least are_apart first_pair_apart is_available next_member give ranks_given ranks_under names place
+    part part_leg enter_class leave_class apex_reg glued_apex glued_leg first_greatest first_above each_part colimit_of dual after
+    comp ident no_dia no_arr segment diagram_sum arrow_sum to_one_height contract_from open_at first_open steps_of settle in refl
 
 -- where the test refuses, there is no step
 beside_refused : settle 1 (λ D. false) beside ≡ []
-beside_refused = unfold swap put image arrow_image arrow_segment cone mid members_of least_by links_of classes comes_before all_links held chains first_on_cycle is_least are_apart first_pair_apart is_available next_member give ranks_given ranks_under names place part part_leg enter_class leave_class apex_reg glued_apex glued_leg first_greatest first_above each_part colimit_of dual after comp ident no_dia no_arr segment diagram_sum arrow_sum to_one_height contract_from open_at first_open steps_of settle in refl
+beside_refused =
+    unfold swap put image arrow_image arrow_segment cone mid members_of least_by links_of classes comes_before all_links held
+    chains first_on_cycle is_least are_apart first_pair_apart is_available next_member give ranks_given ranks_under names place
+    part part_leg enter_class leave_class apex_reg glued_apex glued_leg first_greatest first_above each_part colimit_of dual after
+    comp ident no_dia no_arr segment diagram_sum arrow_sum to_one_height contract_from open_at first_open steps_of settle in refl
 
 -- a beside b, and then c on the first loop: a and b are contracted, and what is left clashes in a and c
 abbrev three : Dia 2
 three = attached_at_target 1 beside (0 ∷ []) (link f) (link f) c
 
 three_steps : map (λ s. s.height) (settle 1 always three) ≡ 0 ∷ []
-three_steps = unfold swap put image arrow_image arrow_segment cone mid members_of least_by links_of classes comes_before all_links held chains first_on_cycle is_least are_apart first_pair_apart is_available next_member give ranks_given ranks_under names place part part_leg enter_class leave_class apex_reg glued_apex glued_leg first_greatest first_above each_part colimit_of dual after comp ident no_dia no_arr segment diagram_sum arrow_sum to_one_height contract_from open_at first_open steps_of settle in refl
+three_steps =
+    unfold swap put image arrow_image arrow_segment cone mid members_of least_by links_of classes comes_before all_links held
+    chains first_on_cycle is_least are_apart first_pair_apart is_available next_member give ranks_given ranks_under names place
+    part part_leg enter_class leave_class apex_reg glued_apex glued_leg first_greatest first_above each_part colimit_of dual after
+    comp ident no_dia no_arr segment diagram_sum arrow_sum to_one_height contract_from open_at first_open steps_of settle in refl
 
 three_settled : settled 2 three (settle 1 always three) ≡ record {
   regs = chain f g ∷ chain f g ∷ chain f g ∷ [];
@@ -51,7 +67,11 @@ three_settled : settled 2 three (settle 1 always three) ≡ record {
   fwds = changes f g a b ∷ changes f g c g ∷ [];
   bwds = changes f g a b ∷ changes f g c g ∷ [];
 }
-three_settled = unfold swap put image arrow_image arrow_segment cone mid members_of least_by links_of classes comes_before all_links held chains first_on_cycle is_least are_apart first_pair_apart is_available next_member give ranks_given ranks_under names place part part_leg enter_class leave_class apex_reg glued_apex glued_leg first_greatest first_above each_part colimit_of dual after comp ident no_dia no_arr segment diagram_sum arrow_sum to_one_height contract_from open_at first_open steps_of settle in refl
+three_settled =
+    unfold swap put image arrow_image arrow_segment cone mid members_of least_by links_of classes comes_before all_links held
+    chains first_on_cycle is_least are_apart first_pair_apart is_available next_member give ranks_given ranks_under names place
+    part part_leg enter_class leave_class apex_reg glued_apex glued_leg first_greatest first_above each_part colimit_of dual after
+    comp ident no_dia no_arr segment diagram_sum arrow_sum to_one_height contract_from open_at first_open steps_of settle in refl
 
 -- ---- trees
 
@@ -61,8 +81,18 @@ beside_trees : contraction_trees (dia_tree 2 beside) [] 0 [] ≡ Ok (record {
   arrow = arr_tree 2 to_at_once;
   stored = dia_tree 3 (cospan 2 beside to_at_once at_once (ident 2 at_once) at_once);
 })
-beside_trees = unfold contraction_trees on_diagram point zig ends zag label_at from_at to_at regs sings fwds bwds heights dimension_of swap put image arrow_image arrow_segment cone mid members_of least_by links_of classes comes_before all_links held chains first_on_cycle is_least are_apart first_pair_apart is_available next_member give ranks_given ranks_under names place part part_leg enter_class leave_class apex_reg glued_apex glued_leg first_greatest first_above each_part colimit_of dual after comp ident no_dia no_arr segment diagram_sum arrow_sum to_one_height contract_from open_at first_open steps_of settle in refl
+beside_trees =
+    unfold contraction_trees on_diagram point zig ends zag label_at from_at to_at regs sings fwds bwds heights dimension_of swap
+    put image arrow_image arrow_segment cone mid members_of least_by links_of classes comes_before all_links held chains
+    first_on_cycle is_least are_apart first_pair_apart is_available next_member give ranks_given ranks_under names place part
+    part_leg enter_class leave_class apex_reg glued_apex glued_leg first_greatest first_above each_part colimit_of dual after comp
+    ident no_dia no_arr segment diagram_sum arrow_sum to_one_height contract_from open_at first_open steps_of settle in refl
 
 -- the height of the one step
 three_heights : settling_heights (λ t. true) (dia_tree 2 three) ≡ 0 ∷ []
-three_heights = unfold settling_heights on_diagram point zig ends zag label_at from_at to_at regs sings fwds bwds heights dimension_of swap put image arrow_image arrow_segment cone mid members_of least_by links_of classes comes_before all_links held chains first_on_cycle is_least are_apart first_pair_apart is_available next_member give ranks_given ranks_under names place part part_leg enter_class leave_class apex_reg glued_apex glued_leg first_greatest first_above each_part colimit_of dual after comp ident no_dia no_arr segment diagram_sum arrow_sum to_one_height contract_from open_at first_open steps_of settle in refl
+three_heights =
+    unfold settling_heights on_diagram point zig ends zag label_at from_at to_at regs sings fwds bwds heights dimension_of swap put
+    image arrow_image arrow_segment cone mid members_of least_by links_of classes comes_before all_links held chains first_on_cycle
+    is_least are_apart first_pair_apart is_available next_member give ranks_given ranks_under names place part part_leg enter_class
+    leave_class apex_reg glued_apex glued_leg first_greatest first_above each_part colimit_of dual after comp ident no_dia no_arr
+    segment diagram_sum arrow_sum to_one_height contract_from open_at first_open steps_of settle in refl

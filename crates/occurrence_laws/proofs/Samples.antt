@@ -234,7 +234,9 @@ parted_in_place = unfold segment diagram_sum arrow_sum arrow_segment ident dual 
 -- both at once, expanded at a: a and then b, and the arrow from that
 both_answered : expand 2 (cospan 1 (chain f g) (on_chain f a g b) (chain a b) (on_chain f a g b) (chain f g)) 0 0
     ≡ Ok (record { result = one_by_one; arrow = merging 1 one_by_one 0 (on_chain a a g b) (on_chain f a b b) })
-both_answered = unfold expand swap put image arrow_image segment diagram_sum arrow_sum arrow_segment to_one_height cone mid ident dual no_dia no_arr in refl
+both_answered =
+    unfold expand swap put image arrow_image segment diagram_sum arrow_sum arrow_segment to_one_height cone mid ident dual no_dia
+    no_arr in refl
 
 -- a alone has nothing to part, and no second inner height
 nothing_left : expand 2 (type_over 1 (link f) (link f) a) 0 0 ≡ Err nothing_to_part
