@@ -1,6 +1,5 @@
 -- Cones and types over valid plain trees are valid and plain.
 use Rattle.std.proofs.Common.{◌≡◌, ℕ, zero, suc, ◌<◌, Result, Ok, Err, IfOk, sym, ap, subst, ◌∙◌, arith}
-use Rattle.std.proofs.lemmas.Result.{IfOk-weaker}
 use Rattle.diagram_terms.specs.declared.label.Label.{Label}
 use Rattle.diagram_terms.specs.OnTrees.{on_diagram}
 use Rattle.diagram_terms.specs.Tree.{Tree}
@@ -14,27 +13,28 @@ use Rattle.diagram_terms.specs.Valid.{Valid, ValidArrow}
 use Rattle.diagram_terms.specs.Cone.{Parallel, cone, mid, type_over, HasLabelsBelow}
 use Rattle.diagram_terms.proofs.Dimensions.{diagram_dimension, arrow_dimension}
 use Rattle.diagram_terms.proofs.Glue.{arr-arr_tree, dia-dia_tree}
+use Rattle.diagram_terms.proofs.NotionsOnTrees.{on_diagram_at}
 use Rattle.plain_laws.specs.Cones.{HasGoodCone}
 use Rattle.plain_laws.proofs.Cones.{cones_are_good, types_are_good}
-use Rattle.hashcons.specs.Contents.{Contents, Grows, IsDiagramOf, diagram_at, arrow_at}
+use Rattle.hashcons.specs.Contents.{Contents, Grows, diagram_at}
+use Rattle.hashcons.specs.Made.{MakesDiagram}
 use Rattle.zigzag_maps.specs.declared.map.Map.{Map}
-use Rattle.zigzag_maps.specs.Found.{IsValidDiagram, IsValidMap}
+use Rattle.zigzag_maps.specs.Found.{IsValidDiagram}
 use Rattle.plain_maps.specs.Plainness.{IsPlainTree, IsPlainDiagramTree}
+use Rattle.plain_maps.specs.ValidPlain.{IsValidPlain, IsValidPlainMap}
 use Rattle.diagram_terms.specs.ValidTrees.{IsValidTreeAt, IsValidTree, IsArrowBetween}
 use Rattle.zigzag_maps.proofs.KeepLemmas.{valid_diagram-grows, between_same}
-use Rattle.boundary_paths.specs.Keeps.{IsConeOf}
+use Rattle.boundary_paths.specs.Cones.{IsConeOf}
 use Rattle.diagram_terms.specs.ConeTrees.{cone_tree, mid_tree, type_tree, HasLabelsBelowTree}
 use Rattle.boundary_paths.proofs.ConeLemmas.{cone_tree_at, mid_tree_at, type_tree_at, cone_shape, mid_shape, type_shape, source_is, target_is}
 
 -- ---- a tree at the dimension of its shape
 
 plain_at : (d : ℕ) (t : Tree) → IsDiagram d t → IsPlainDiagramTree t → Plain d (dia d t)
-unfolding IsPlainDiagramTree
-plain_at d t h p = subst (λ n. Plain n (dia n t)) (diagram_dimension d t h) p
+plain_at d t h p = subst (λ (P : Type 0). P) (on_diagram_at Plain d t h) p
 
 plain_from : (d : ℕ) (t : Tree) → IsDiagram d t → Plain d (dia d t) → IsPlainDiagramTree t
-unfolding IsPlainDiagramTree
-plain_from d t h p = subst (λ n. Plain n (dia n t)) (sym (diagram_dimension d t h)) p
+plain_from d t h p = subst (λ (P : Type 0). P) (sym (on_diagram_at Plain d t h)) p
 
 plain_arrow_from : (d : ℕ) (f : Tree) → IsArrow d f → PlainArrow d (arr d f) → IsPlainTree f
 unfolding IsPlainTree
@@ -127,34 +127,33 @@ type_is_good s t x vs vt ps pt bs bt parallel =
 
 -- ---- in a store
 
--- m is a valid plain map to a plain diagram
-pub record IsPlainMap (c : Contents) (m : Map) : Type 0 where
-  pub valid : IsValidMap c m
-  pub plain : IsPlainTree (arrow_at c m.arrow)
-  pub target_plain : IsPlainDiagramTree (diagram_at c m.target)
-
-pub plain_cone : (old new : Contents) (x : Label) (d : ℕ) (m : Map) → Grows old new → IsValidDiagram old d
-    → IsPlainDiagramTree (diagram_at old d) → HasLabelsBelowTree x.dim (diagram_at old d) → IsConeOf new x d m → IsPlainMap new m
-plain_cone old new x d m g v p b is =
-    let good = subst (λ t. IsGoodCone t x) (sym (g.diagram_trees d v.of_store)) (cone_is_good (diagram_at old d) x v.valid p b) in
+pub valid_plain_cone : (old new : Contents) (x : Label) (d : ℕ) (m : Map) → Grows old new → IsValidPlain old d
+    → HasLabelsBelowTree x.dim (diagram_at old d) → IsConeOf new x d m → IsValidPlainMap new m
+valid_plain_cone old new x d m g p b is =
+    let d_is = sym (g.diagram_trees d p.valid.of_store) in
+    let source_is = ap (diagram_at new) (sym is.source) in
+    let good = subst (λ t. IsGoodCone t x) d_is (cone_is_good (diagram_at old d) x p.valid.valid p.plain b) in
     let target_is = sym is.target in
     let arrow_is = sym is.arrow in
     record {
       valid = record {
-        source = subst (IsValidDiagram new) (sym is.source) (valid_diagram-grows old new d g v);
+        source = subst (IsValidDiagram new) (sym is.source) (valid_diagram-grows old new d g p.valid);
         target = record { of_store = is.target_of_store; valid = subst IsValidTree target_is good.valid };
         arrow = is.arrow_of_store;
-        between = between_same _ _ _ _ _ _ (ap (diagram_at new) (sym is.source)) target_is arrow_is good.between;
+        between = between_same _ _ _ _ _ _ source_is target_is arrow_is good.between;
       };
-      plain = subst IsPlainTree arrow_is good.plain_cone;
+      source_plain = subst IsPlainDiagramTree (d_is ∙ source_is) p.plain;
       target_plain = subst IsPlainDiagramTree target_is good.plain;
+      plain = subst IsPlainTree arrow_is good.plain_cone;
     }
 
-pub valid_type : {E : Type 0} (c : Contents) (s t : Tree) (x : Label) (r : Result ℕ E) → IsGoodType s t x
-    → IfOk r (λ e. IsDiagramOf c e) → IfOk r (λ e. diagram_at c e ≡ type_tree s t x) → IfOk r (λ e. IsValidDiagram c e)
-valid_type c s t x (Ok e) good l is = record { of_store = l; valid = subst IsValidTree (sym is) good.valid }
-valid_type c s t x (Err e) good l is = tt
-
-pub plain_type : {E : Type 0} (c : Contents) (s t : Tree) (x : Label) (r : Result ℕ E) → IsGoodType s t x
-    → IfOk r (λ e. diagram_at c e ≡ type_tree s t x) → IfOk r (λ e. IsPlainDiagramTree (diagram_at c e))
-plain_type c s t x r good is = IfOk-weaker r _ _ (λ e e_is. subst IsPlainDiagramTree (sym e_is) good.plain) is
+pub valid_plain_type : {E : Type 0} (old new : Contents) (s t : ℕ) (x : Label) (r : Result ℕ E) → IsValidPlain old s → IsValidPlain old t
+    → HasLabelsBelowTree x.dim (diagram_at old s) → HasLabelsBelowTree x.dim (diagram_at old t) → AreParallel (diagram_at old s) (diagram_at old t)
+    → MakesDiagram old new (type_tree (diagram_at old s) (diagram_at old t) x) r → IfOk r (IsValidPlain new)
+valid_plain_type old new s t x (Err e) vs vt bs bt parallel made = tt
+valid_plain_type old new s t x (Ok e) vs vt bs bt parallel made =
+    let good = type_is_good _ _ x vs.valid.valid vt.valid.valid vs.plain vt.plain bs bt parallel in
+    record {
+      valid = record { of_store = made.of_store; valid = subst IsValidTree (sym made.tree) good.valid };
+      plain = subst IsPlainDiagramTree (sym made.tree) good.plain;
+    }

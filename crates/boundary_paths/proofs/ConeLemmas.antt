@@ -19,7 +19,8 @@ use Rattle.diagram_terms.proofs.Duals.{length-tab, get-tab}
 use Rattle.diagram_terms.proofs.Glue.{dia_tree-dia, dia-sings_len, dia-reg, dia-sing}
 use Rattle.diagram_terms.proofs.Shapes.{IsDiagram-point, IsDiagram-zig, IsArrow-ends, IsArrow-zag}
 use Rattle.diagram_terms.specs.Operations.{identity_tree}
-use Rattle.zigzag_maps.proofs.IdentityLemmas.{identity_tree_at, identity_shape, slices_tab}
+use Rattle.zigzag_maps.proofs.IdentityLemmas.{identity_shape, slices_tab}
+use Rattle.diagram_terms.proofs.NotionsOnTrees.{on_diagram_at}
 use Rattle.hashcons.specs.Contents.{Contents, IsStore, IsDiagramOf, diagram_at}
 use Rattle.diagram_terms.specs.ConeTrees.{identity_diagram_tree, cone_tree, mid_tree, type_tree}
 
@@ -111,10 +112,10 @@ module _ (d : ℕ) (t : Tree) (h : IsDiagram (suc d) t) where
   pub target_is : target d (dia (suc d) t) ≡ dia d (target_tree t)
   target_is = ap (reg d (dia (suc d) t)) (dia-sings_len d t) ∙ dia-reg d t h (length (sings t)) (omega arith)
 
-  source_shape : IsDiagram d (source_tree t)
+  pub source_shape : IsDiagram d (source_tree t)
   source_shape = h.regs_are 0 (omega arith)
 
-  target_shape : IsDiagram d (target_tree t)
+  pub target_shape : IsDiagram d (target_tree t)
   target_shape = h.regs_are (length (sings t)) (omega arith)
 
   pub mid_tree-above : (x : Label) → mid_tree t x ≡ type_tree (source_tree t) (target_tree t) x
@@ -131,8 +132,8 @@ module _ (d : ℕ) (t : Tree) (h : IsDiagram (suc d) t) where
       let n = dia-sings_len d t in
       let l = cone-sings_len d D x in
       let hs : f.heights ≡ replicate (length (sings t)) 0 = cone-heights d D x ∙ ap (λ k. replicate k 0) n in
-      let p = ap (λ X. arr_tree d (ident d X)) source_is ∙ sym (identity_tree_at d (source_tree t) source_shape) in
-      let q = ap (λ X. arr_tree d (ident d X)) target_is ∙ sym (identity_tree_at d (target_tree t) target_shape) in
+      let p = ap (λ X. arr_tree d (ident d X)) source_is ∙ sym (on_diagram_at _ d (source_tree t) source_shape) in
+      let q = ap (λ X. arr_tree d (ident d X)) target_is ∙ sym (on_diagram_at _ d (target_tree t) target_shape) in
       let rs : map (arr_tree d) f.regs ≡ identity_tree (source_tree t) ∷ identity_tree (target_tree t) ∷ [] =
       ap (map (arr_tree d)) (cone-regs d D x) ∙ (λ i. p i ∷ q i ∷ [])
       in

@@ -1,8 +1,8 @@
-ghost use Rattle.std.specs.Prelude.{◌≡◌, IfOk};
-ghost use Rattle.hashcons.specs.Contents.{IsDiagramOf, Grows, IsStore, diagram_at};
+ghost use Rattle.hashcons.specs.Contents.{IsDiagramOf, diagram_at};
+ghost use Rattle.hashcons.specs.Made.{MakesDiagram};
 ghost use Rattle.diagram_terms.specs.ConeTrees.{identity_diagram_tree};
 
-use hashcons::{AnyId, DiagramId, DiagramNode, Store};
+use hashcons::{DiagramId, DiagramNode, Store};
 use smallvec::SmallVec;
 use std::alloc::{AllocError, Global};
 
@@ -14,11 +14,8 @@ pub fn identity_diagram(
     d: DiagramId,
 ) -> Result<DiagramId, AllocError>
     requires of_store { IsDiagramOf store.old d }
-    ensures of_store { IfOk result (λ e. IsDiagramOf store.new e) }
-    ensures tree { IfOk result (λ e.
-        diagram_at store.new e ≡ identity_diagram_tree (diagram_at store.old d)) }
-    ensures grows { Grows store.old store.new }
-    ensures store { IsStore store.new }
+    ensures made { MakesDiagram store.old store.new
+        (identity_diagram_tree (diagram_at store.old d)) result }
 {
     // The call says of the store that its trees have their shapes.
     let _ = store.length(d);

@@ -3,7 +3,7 @@
 
 mod cones;
 mod degenerate;
-mod kept;
+mod made;
 mod slices;
 
 pub use cones::{cone, type_over};

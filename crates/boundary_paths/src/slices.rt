@@ -4,7 +4,7 @@ ghost use Rattle.diagram_terms.specs.Slices.{slice_at, slice_along, source_tree,
 ghost use Rattle.hashcons.specs.Contents.{IsDiagramOf, diagram_at};
 
 use diagram_terms::Height;
-use hashcons::{AnyId, DiagramId, DiagramNode, Store};
+use hashcons::{AnyId, DiagramId, Store};
 
 /// A step of a path names no height of the slice that it is taken in.
 #[derive(Clone, Copy, Debug, PartialEq, Eq)]
@@ -33,17 +33,19 @@ pub fn slice(store: &Store, d: DiagramId, path: &[Height]) -> Result<DiagramId, 
 }
 
 /// The slice at a height, if the diagram has the height.
+#[tactic(auto, using(crate::proofs::Ends::slices))]
 fn slice_at(store: &Store, d: DiagramId, height: Height) -> Option<DiagramId>
     requires { IsDiagramOf store.now d }
     ensures of_store { IfSome result (λ e. IsDiagramOf store.now e) }
     ensures tree { option_map (diagram_at store.now) result ≡ slice_at (diagram_at store.now d) height }
 {
-    match store.view_diagram(d) {
-        DiagramNode::Zero(_) => None,
-        DiagramNode::Zig { regs, sings, .. } => match height {
-            Height::R(at) => regs.as_slice().get(at).copied(),
-            Height::S(at) => sings.as_slice().get(at).copied(),
-        },
+    if store.dim(AnyId::Diagram(d)) == 0 {
+        return None;
+    }
+    let length = store.length(d);
+    match height {
+        Height::R(at) => if at <= length { Some(store.reg(d, at)) } else { None },
+        Height::S(at) => if at < length { Some(store.sing(d, at)) } else { None },
     }
 }
 
@@ -55,10 +57,7 @@ pub fn source(store: &Store, d: DiagramId) -> DiagramId
     ensures of_store { IsDiagramOf store.now result }
     ensures tree { diagram_at store.now result ≡ source_tree (diagram_at store.now d) }
 {
-    match store.view_diagram(d) {
-        DiagramNode::Zero(_) => unreachable!(),
-        DiagramNode::Zig { regs, .. } => regs[0],
-    }
+    store.reg(d, 0)
 }
 
 /// The target of a diagram: its last regular slice.

@@ -1,2 +1,3 @@
 pub mod PlainKeeps
 pub mod Plainness
+pub mod ValidPlain

@@ -1,9 +1,9 @@
 use Rattle.std.proofs.Common.{◌+◌, ◌*◌}
-use Rattle.diagram_terms.specs.Shape.{sing_at}
-use Rattle.hashcons.specs.Contents.{Grows, IsStore, diagram_at}
-use Rattle.hashcons.specs.Gathers.{Gathers}
-use Rattle.boundary_paths.specs.Keeps.{AreRight}
 use Rattle.diagram_terms.specs.ConeTrees.{cone_tree}
+use Rattle.diagram_terms.specs.Shape.{sing_at}
+use Rattle.hashcons.specs.Contents.{Grows, diagram_at}
+use Rattle.hashcons.specs.Gathers.{Gathers}
+use Rattle.boundary_paths.specs.Cones.{AreCones}
 use Rattle.boundary_paths.proofs.cones.+cones.Given as goal
 
 abbrev pub decreases-cospan_of_cones : goal.decreases-cospan_of_cones
@@ -21,7 +21,6 @@ decreases-singular_cones l = 4 * l.dim
 abbrev pub invariant-singular_cones-loop-i : goal.invariant-singular_cones-loop-i
 invariant-singular_cones-loop-i l = record {
   grows : Grows l.fn.store l.store;
-  store : IsStore l.store;
-  kept : AreRight l.store l.x l.kept;
+  cones : AreCones l.store l.x l.made;
   gathers : Gathers l.store.arrows l.ids.items l.i (λ i. cone_tree (sing_at (diagram_at l.fn.store l.d) i) l.x);
 }
