@@ -49,4 +49,5 @@ abbrev pub first_short : List Generator → (d : ℕ) → Dia d → Option Fault
 first_short generators zero x = fault_in generators zero x (record { heights = []; label = x })
 first_short generators (suc d) X =
     first_of (option_map (fault_inside (height_kind.R 0)) (first_short generators d (reg d X 0)))
-    (first_over (λ k. option_map (fault_inside (height_kind.S k)) (first_singular_unless_quiet generators d d 1 (one_height d X k) (sing d X k))) (upto (length X.sings)))
+    (first_over (λ k. option_map (fault_inside (height_kind.S k)) (first_singular_unless_quiet generators d d 1 (one_height d X k) (sing d X k)))
+    (upto (length X.sings)))

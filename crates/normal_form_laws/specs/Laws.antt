@@ -98,7 +98,8 @@ CertificatesAreExact d = (T S : Dia d) (legs gs : List (Leg d)) (a : Arr d)
 -- and the normal form with the factors has one
 abbrev pub NormalFormsHaveCertificates : ℕ → Type 0
 NormalFormsHaveCertificates d = (T : Dia d) (legs : List (Leg d)) → Valid d T → ValidLegs d T legs
-    → IsCertificate d T legs (normal_form keep.Free d T legs).source (normal_form keep.Free d T legs).arrow (factor_legs d (normal_form keep.Free d T legs).arrow legs)
+    → IsCertificate d T legs (normal_form keep.Free d T legs).source (normal_form keep.Free d T legs).arrow
+    (factor_legs d (normal_form keep.Free d T legs).arrow legs)
 
 -- ---- what the type check needs
 

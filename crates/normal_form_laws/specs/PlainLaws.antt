@@ -53,7 +53,8 @@ PlainFormsAreDegeneracies d = (T : Dia d) (legs : List (Leg d)) → Valid d T �
 -- the legs factor through it by their factors
 abbrev pub LegsFactorThroughPlainForms : ℕ → Type 0
 LegsFactorThroughPlainForms d = (T : Dia d) (legs : List (Leg d)) → Valid d T → Plain d T → ValidLegs d T legs
-    → LegsFactorBy d legs (normal_form keep.Plain d T legs).source (normal_form keep.Plain d T legs).arrow (factor_legs d (normal_form keep.Plain d T legs).arrow legs)
+    → LegsFactorBy d legs (normal_form keep.Plain d T legs).source (normal_form keep.Plain d T legs).arrow
+    (factor_legs d (normal_form keep.Plain d T legs).arrow legs)
 
 -- its source is reduced for the factors, its regular slices left alone
 abbrev pub PlainFormsAreReduced : ℕ → Type 0

@@ -1,10 +1,10 @@
 -- Relabelled and suspended diagrams, their regions and their signatures, by computation.
-use Rattle.std.proofs.Common.{◌≡◌, ℕ, suc, List, [], ◌∷◌, None, Some, refl, if◌then◌else◌}
+use Rattle.std.proofs.Common.{◌≡◌, List, [], ◌∷◌, None, Some, refl, if◌then◌else◌}
 use Rattle.std.specs.Prelude.{nat_eq}
 use Rattle.diagram_terms.specs.declared.label.Label.{Label}
 use Rattle.diagram_terms.specs.declared.place.Height.{Height}
 use Rattle.diagram_terms.specs.declared.place.Height.TheVariants as height_kind
-use Rattle.diagram_terms.specs.CarriedRegions.{relabelled_region, suspended_region}
+use Rattle.diagram_terms.specs.CarriedRegions.{suspended_region}
 use Rattle.diagram_terms.specs.Cone.{cospan}
 use Rattle.diagram_terms.specs.Cuts.{cut_arrow, cut_diagram}
 use Rattle.diagram_terms.specs.Decoded.{dia_tree}
@@ -16,9 +16,9 @@ use Rattle.diagram_terms.specs.PointRegions.{point_region}
 use Rattle.diagram_terms.specs.Preimages.{preimage}
 use Rattle.diagram_terms.specs.Regions.{Reg, no_region}
 use Rattle.diagram_terms.specs.Relabelling.{relabelled, relabelled_arrow}
-use Rattle.diagram_terms.specs.SignatureMaps.{relabelled_tree, relabelled_generator, suspended_tree, suspended_generator, suspended_signature}
+use Rattle.diagram_terms.specs.SignatureMaps.{suspended_tree, suspended_signature}
 use Rattle.diagram_terms.specs.Suspension.{north, south, raised, suspended, suspended_arrow}
-use Rattle.diagram_terms.specs.Tree.{point, label_at, first, second, number_in, label_in}
+use Rattle.diagram_terms.specs.Tree.{point, label_at}
 use Rattle.diagram_terms.specs.Typing.{Generator}
 
 abbrev x : Label

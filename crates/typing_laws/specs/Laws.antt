@@ -48,7 +48,8 @@ VerdictsOfIdentityDiagrams d = (generators : List Generator) (x : Label) (M : Di
 -- so the fault at a point over a regular height is that in the slice
 abbrev pub FaultsOverRegularHeights : ℕ → Type 0
 FaultsOverRegularHeights d = (generators : List Generator) (X : Dia (suc d)) (j : ℕ) (p : Point) → IsFullyGoodSignature generators
-    → fault_in generators (suc d) X (point_inside (height_kind.R j) p) ≡ option_map (fault_inside (height_kind.R j)) (fault_in generators d (reg d X j) p)
+    → fault_in generators (suc d) X (point_inside (height_kind.R j) p)
+    ≡ option_map (fault_inside (height_kind.R j)) (fault_in generators d (reg d X j) p)
 
 -- over a singular height and beside it the diagram of this one height is all that is seen
 abbrev pub NormalFormsSeeOneHeight : ℕ → Type 0
@@ -218,7 +219,8 @@ DeepPointsDecide d = (generators : List Generator) (X : Dia d) → IsFullyGoodSi
 
 -- and where no point over a singular height fails, none does over the regular heights beside it
 abbrev pub SingularHeightsDecide : ℕ → Type 0
-SingularHeightsDecide d = (generators : List Generator) (X : Dia (suc d)) (k : ℕ) → IsFullyGoodSignature generators → Valid (suc d) X → k < length X.sings
+SingularHeightsDecide d = (generators : List Generator) (X : Dia (suc d)) (k : ℕ) → IsFullyGoodSignature generators
+    → Valid (suc d) X → k < length X.sings
     → first_fault_among (fault_in generators (suc d) X) (inside (height_kind.S k) (points d (sing d X k))) ≡ None → PassesBeside generators d X k
 
 -- ---- the short check
@@ -240,7 +242,8 @@ FirstFaultsAreShort d = (generators : List Generator) (t : Tree) → IsFullyGood
 abbrev pub NewHeightsDecide : ℕ → Type 0
 NewHeightsDecide d = (generators : List Generator) (X : Dia (suc d)) → IsFullyGoodSignature generators → Valid (suc d) X → Plain (suc d) X
     → FullyTyped generators d (source d X)
-    → FullyTyped generators (suc d) X ↔ ((k : ℕ) → k < length X.sings → first_singular_unless_quiet generators d d 1 (one_height d X k) (sing d X k) ≡ None)
+    → FullyTyped generators (suc d) X
+    ↔ ((k : ℕ) → k < length X.sings → first_singular_unless_quiet generators d d 1 (one_height d X k) (sing d X k) ≡ None)
 
 -- ---- what may be kept
 
