@@ -4,7 +4,7 @@ ghost use Rattle.io_edge.specs.Counts.{Rose};
 ghost use Rattle.io_edge.specs.Transfers.{AppendsPrefix};
 ghost use Rattle.diagram_terms.specs.declared.limits.TheConstants.{GREATEST_DIM};
 ghost use Rattle.diagram_terms.specs.Dimension.{dimension_of};
-ghost use Rattle.hashcons.specs.Contents.{IsDiagramOf, Grows, IsStore, diagram_at};
+ghost use Rattle.hashcons.specs.Contents.{IsDiagramOf, Grows, diagram_at};
 ghost use Rattle.node_json.specs.Documents.{IsDocument};
 ghost use Rattle.zigzag_maps.specs.Keeps.{AreRight};
 ghost use Rattle.zigzag_maps.specs.Visits.{fault_of};
@@ -44,10 +44,9 @@ fn looked_at(
     ensures reply { IfOk result (λ reply. reply ≡ tree_reply name.now (diagram_at store.old diagram)) }
     ensures kept { AreRight store.new kept.new }
     ensures grows { Grows store.old store.new }
-    ensures store { IsStore store.new }
 {
     let at = place_of(valid_keeping(alloc, store, kept, diagram)?);
-    let name = Text::from_string(String::from_str(alloc, name.as_str())?);
+    let name = name.copy(alloc)?;
     Ok(Reply::Look {
         dim: store.dim(AnyId::Diagram(diagram)) as u8,
         length: store.length(diagram),

@@ -41,7 +41,7 @@ fn slice_reply(
     ensures { IfOk result (λ reply. reply ≡ slice_reply_lem document.now name.now path.now) }
 {
     let Some(root) = root_named(document, name) else {
-        let name = Text::from_string(String::from_str(alloc, name)?);
+        let name = Text::from_str(alloc, name)?;
         return Ok(Reply::Refused(Refusal::Unknown { name }));
     };
     let mut store = Store::new(alloc);

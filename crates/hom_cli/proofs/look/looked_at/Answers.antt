@@ -16,6 +16,6 @@ returns-clause-reply c =
     let fault : c.place_of-at.result ≡ diagram_fault t = c.place_of-at.ensures ∙ c.in_ok-valid_keeping.ensures.exact in
     let shape : IsDiagram c.dim.result t = subst (IsDiagram c.dim.result) kept c.dim.ensures.shape in
     let len : c.length.result ≡ length (sings t) = c.length.ensures.length ∙ ap (λ (u : Tree). length (sings u)) kept in
-    let name_is : c.from_string-name.result ≡ c.args.name.now = c.from_string-name.ensures ∙ c.in_ok-from_str.ensures.ok ∙ c.as_str.ensures in
+    let name_is : c.in_ok-name.name ≡ c.args.name.now = c.in_ok-name.ensures in
     ap (λ (name : List ℕ). Look c.dim.result c.length.result name c.place_of-at.result) name_is
     ∙ looked c.args.name.now t c.dim.result c.length.result c.place_of-at.result shape len fault

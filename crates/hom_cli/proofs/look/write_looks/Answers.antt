@@ -9,7 +9,7 @@ use Rattle.io_edge.specs.declared.whole.WriteAllFault.TheVariants.{WriteFault}
 use Rattle.io_edge.proofs.Parts.{begun, ended, cut_off, stopped, one_more}
 use Rattle.io_edge.proofs.Rises.{Rose-within}
 use Rattle.hom_cli.specs.Full.{Answer, is_yes, line, look_reply, replied}
-use Rattle.hom_cli.proofs.Looks.{entry_place, read_kind, entry_of_store, entry_dim, entry_reply}
+use Rattle.hom_cli.proofs.Looks.{grown_is_store, entry_place, read_kind, entry_of_store, entry_dim, entry_reply}
 use Rattle.hom_cli.proofs.Lines.{on_err, entry_answers, next_entry, next_lines, more_status, reply_line, reply_good, last_status, all_written}
 use Rattle.hom_cli.proofs.look.write_looks.Goals as goal
 use Rattle.hom_cli.proofs.look.write_looks.Goals.{then-not-is_yes, else-not-is_yes}
@@ -20,7 +20,7 @@ loop-entry-init g c = record {
   status = refl;
   later = omega arith;
   ids = subst (λ (ns : List Node). GathersIds c.put_nodes.new.self c.in_ok-ids.ids.items (length ns) (tree_at ns)) c.as_slice.ensures c.in_ok-ids.ensures.ids;
-  store = c.in_ok-ids.ensures.store;
+  store = grown_is_store _ _ c.new-store.ensures c.in_ok-ids.ensures.grows;
   kept = c.new-kept.ensures c.put_nodes.new.self;
 }
 
@@ -124,7 +124,7 @@ loop-entry-preserved g c =
       ];
       later = omega (arith, c.in_ok-write_line.ensures.later);
       ids = ids-grow c.loop-entry.store _ c.in_ok-ids.ids.items (length d.nodes) (tree_at d.nodes) c.in_ok-reply.ensures.grows inv.ids;
-      store = c.in_ok-reply.ensures.store;
+      store = c.in_ok-reply.ensures.grows.store inv.store;
       kept = c.in_ok-reply.ensures.kept;
     }
 
