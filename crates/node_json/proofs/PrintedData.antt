@@ -7,7 +7,7 @@ use Rattle.json.proofs.Printed.Utf8.{are_ascii}
 use Rattle.serde_json.specs.Data.{Data, depth}
 use Rattle.serde_json.specs.Read.{max_depth}
 use Rattle.diagram_terms.specs.declared.label.Label.{Label}
-use Rattle.diagram_terms.specs.declared.limits.TheConstants.{GREATEST_DIM, NUMBER_LIMIT}
+use Rattle.diagram_terms.specs.declared.limits.TheConstants.{GREATEST_DIM, MAX_NAME_LENGTH, NUMBER_LIMIT}
 use Rattle.diagram_terms.specs.declared.node.Node.{Node}
 use Rattle.diagram_terms.specs.declared.node.Node.TheVariants as node
 use Rattle.diagram_terms.specs.declared.node.Sort.{Sort}
@@ -40,7 +40,7 @@ name_bytes_are_ascii (b ∷ s) is =
     and_from (nat_lt b 128) (are_ascii s) (name_byte_small b p.0) (name_bytes_are_ascii s p.1)
 
 good_is_ascii : (name : List ℕ) → IsGoodName name → are_ascii name ≡ true
-good_is_ascii name good = name_bytes_are_ascii name (and_parts (nat_le 1 (length name) && nat_le (length name) 64) (list_all is_name_byte name) good).1
+good_is_ascii name good = name_bytes_are_ascii name (and_parts (nat_le 1 (length name) && nat_le (length name) MAX_NAME_LENGTH) (list_all is_name_byte name) good).1
 
 -- ---- numbers and labels
 
