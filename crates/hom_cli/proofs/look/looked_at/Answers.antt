@@ -8,7 +8,7 @@ use Rattle.hom_cli.proofs.Looks.{looked}
 use Rattle.hom_cli.proofs.look.looked_at.Goals as goal
 
 pub dim-requires : goal.dim-requires
-dim-requires c = c.in_ok-valid_keeping.ensures.grows.diagrams c.args.diagram c.requires.of_store
+dim-requires c = record { of_store = c.in_ok-valid_keeping.ensures.grows.diagrams c.args.diagram c.requires.of_store }
 
 pub returns-clause-reply : goal.returns-clause-reply
 returns-clause-reply c =

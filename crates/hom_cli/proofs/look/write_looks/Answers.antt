@@ -6,7 +6,7 @@ use Rattle.hashcons.specs.Ids.{GathersIds}
 use Rattle.hashcons.proofs.FillLemmas.{ids-grow}
 use Rattle.node_json.specs.declared.document.DiagramEntry.{DiagramEntry}
 use Rattle.io_edge.specs.declared.whole.WriteAllFault.TheVariants.{WriteFault}
-use Rattle.io_edge.proofs.Parts.{begun, ended, cut_off, stopped, one_more}
+use Rattle.io_edge.proofs.Parts.{begun, not_begun, ended, cut_off, stopped, one_more}
 use Rattle.io_edge.proofs.Rises.{Rose-within}
 use Rattle.hom_cli.specs.Full.{Answer, is_yes, line, look_reply, replied}
 use Rattle.hom_cli.proofs.Looks.{grown_is_store, entry_place, read_kind, entry_of_store, entry_dim, entry_reply}
@@ -59,6 +59,9 @@ looked_at-requires-clause-dim g c =
     c.entry-item.is ∙ ap (λ (es : List DiagramEntry). get_or es c.loop-entry.entry-index entry) items in
     let place = entry_place d c.requires c.loop-entry.entry-index entry within is in
     entry_dim d.nodes c.requires.nodes c.loop-entry.store c.in_ok-ids.ids.items inv.ids inv.store entry place c.index.result.now _ c.index.ensures c.diagram_of-diagram.ensures
+
+pub returns-in_err-ids-clause-err : goal.returns-in_err-ids-clause-err
+returns-in_err-ids-clause-err g c = on_err _ (not_begun _ _)
 
 pub returns-in_err-reply-clause-err : goal.returns-in_err-reply-clause-err
 returns-in_err-reply-clause-err g c =
