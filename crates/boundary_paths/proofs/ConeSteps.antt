@@ -20,7 +20,7 @@ use Rattle.hashcons.proofs.ContentsLemmas.{Grows-refl}
 use Rattle.hashcons.proofs.Growth.{Grows-trans, store-kept, diagram-kept, arrow-kept, diagram_at-kept, arrow_at-kept, gathers-arrows_grow, gathers-picked}
 use Rattle.zigzag_maps.specs.declared.map.Map.{Map}
 use Rattle.zigzag_maps.specs.Found.{MakesMap}
-use Rattle.zigzag_maps.specs.Validity.{IsDiagramAt}
+use Rattle.zigzag_maps.specs.DiagramTests.{IsDiagramAt}
 use Rattle.zigzag_maps.proofs.ValiditySteps.{is_diagram_at-grows}
 use Rattle.boundary_paths.specs.declared.made.MadeCones.{MadeCones}
 use Rattle.boundary_paths.specs.Cones.{IsConeOf, MakesCone, AreCones}

@@ -9,7 +9,7 @@ ghost use Rattle.diagram_terms.specs.Tree.{sings};
 ghost use Rattle.hashcons.specs.Contents.{IsDiagramOf, Grows, IsStore, diagram_at};
 ghost use Rattle.hashcons.specs.Made.{MakesDiagram, MakesArrows};
 ghost use Rattle.zigzag_maps.specs.Found.{MakesMap};
-ghost use Rattle.zigzag_maps.specs.Validity.{IsDiagramAt};
+ghost use Rattle.zigzag_maps.specs.DiagramTests.{IsDiagramAt};
 ghost use Rattle.plain_maps.specs.ValidPlain.{IsValidPlain, IsValidPlainMap};
 ghost use Rattle.boundary_paths.specs.Cones.{MakesCone, AreCones};
 

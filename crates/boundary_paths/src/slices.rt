@@ -44,8 +44,16 @@ fn slice_at(store: &Store, d: DiagramId, height: Height) -> Option<DiagramId>
     }
     let length = store.length(d);
     match height {
-        Height::R(at) => if at <= length { Some(store.reg(d, at)) } else { None },
-        Height::S(at) => if at < length { Some(store.sing(d, at)) } else { None },
+        Height::R(at) => if at <= length {
+            Some(store.reg(d, at))
+        } else {
+            None
+        },
+        Height::S(at) => if at < length {
+            Some(store.sing(d, at))
+        } else {
+            None
+        },
     }
 }
 

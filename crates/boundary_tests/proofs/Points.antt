@@ -8,6 +8,7 @@ use Rattle.diagram_terms.specs.Decoded.{dia}
 use Rattle.diagram_terms.specs.Dimension.{dimension_of-point}
 use Rattle.diagram_terms.specs.Plain.{Plain}
 use Rattle.diagram_terms.specs.Slices.{AreParallel}
+use Rattle.diagram_terms.proofs.NotionsOnTrees.{on_diagram_at}
 use Rattle.diagram_terms.proofs.Shapes.{IsDiagram-point}
 use Rattle.hashcons.specs.declared.id.AnyId.{AnyId}
 use Rattle.hashcons.specs.declared.id.AnyId.TheVariants as id
@@ -15,6 +16,7 @@ use Rattle.hashcons.specs.Ids.{IsOf}
 use Rattle.hashcons.specs.Contents.{Contents, IsDiagramOf, diagram_at}
 use Rattle.zigzag_maps.specs.Found.{IsValidDiagram}
 use Rattle.plain_maps.specs.Plainness.{IsPlainDiagramTree}
+use Rattle.plain_maps.specs.ValidPlain.{IsValidPlain}
 use Rattle.diagram_terms.specs.ValidTrees.{IsValidTree}
 use Rattle.diagram_terms.specs.ConeTrees.{HasLabelsBelowTree}
 
@@ -22,8 +24,7 @@ valid-point : (x : Label) → IsValidTree (point x)
 valid-point x = record { dim = zero; at_dim = record { shape = IsDiagram-point x; valid = tt } }
 
 plain-point : (x : Label) → IsPlainDiagramTree (point x)
-unfolding IsPlainDiagramTree
-plain-point x = subst (λ n. Plain n (dia n (point x))) (sym (dimension_of-point x)) tt
+plain-point x = subst (λ (P : Type 0). P) (sym (on_diagram_at Plain zero (point x) (IsDiagram-point x))) tt
 
 labels-point : (n : ℕ) (x : Label) → x.dim < n → HasLabelsBelowTree n (point x)
 unfolding HasLabelsBelowTree on_diagram
@@ -38,13 +39,16 @@ module _ (c : Contents) (d : ℕ) (x : Label) (is : diagram_at c d ≡ point x) 
   pub plain_label : IsPlainDiagramTree (diagram_at c d)
   plain_label = subst IsPlainDiagramTree (sym is) (plain-point x)
 
+  pub valid_plain_label : IsDiagramOf c d → IsValidPlain c d
+  valid_plain_label l = record { valid = valid_label l; plain = plain_label }
+
   pub label_below : (n : ℕ) → x.dim < n → HasLabelsBelowTree n (diagram_at c d)
   label_below n l = subst (HasLabelsBelowTree n) (sym is) (labels-point n x l)
 
   pub parallel_label : AreParallel (diagram_at c d) (diagram_at c d)
   parallel_label = record { dims = refl; sources = λ _. refl; targets = λ _. refl }
 
-pub ruleset points = (valid_label, plain_label, label_below, parallel_label)
+pub ruleset points = (valid_label, plain_label, valid_plain_label, label_below, parallel_label)
 
 -- an id of a diagram of the store, among ids that were put
 pub diagram_of_id : (c : Contents) (i : AnyId) (d : ℕ) → i ≡ id.Diagram d → IsOf c i → IsDiagramOf c d

@@ -7,8 +7,8 @@ use Rattle.diagram_terms.specs.Tree.{Tree}
 use Rattle.diagram_terms.specs.Shape.{IsDiagram}
 use Rattle.hashcons.specs.declared.id.AnyId.{AnyId}
 use Rattle.hashcons.specs.declared.id.AnyId.TheVariants as id
-use Rattle.hashcons.specs.contracts.id.AnyIdPartialEq.TheImpl as any_id_impl
 use Rattle.hashcons.specs.Contents.{Contents, IsStore, IsDiagramOf, IsArrowOf, diagram_at, arrow_at}
+use Rattle.hashcons.specs.FoundIds.{id_eq}
 use Rattle.hashcons.specs.Ids.{IsOf, tree_of}
 
 -- no diagram of a store has the tree of an arrow
@@ -23,9 +23,6 @@ same_iff c store (id.Diagram x) (id.Diagram y) p q = (ap (tree_of c), λ e. ap i
 same_iff c store (id.Diagram x) (id.Arrow y) p q = (ap (tree_of c), λ e. absurd (apart c x y store p q e))
 same_iff c store (id.Arrow x) (id.Diagram y) p q = (ap (tree_of c), λ e. absurd (apart c y x store q p (sym e)))
 same_iff c store (id.Arrow x) (id.Arrow y) p q = (ap (tree_of c), λ e. ap id.Arrow (store.arrows_once x y p q e))
-
-abbrev pub id_eq : AnyId → AnyId → Bool
-id_eq a b = (any_id_impl.eq-value).it a b
 
 pub id_decides : (a b : AnyId) → (id_eq a b ≡ true) ↔ (a ≡ b)
 id_decides (id.Diagram x) (id.Diagram y) = (λ h. ap id.Diagram ((Decides-eqb x y).0 h), λ e. (Decides-eqb x y).1 (cc))

@@ -1,6 +1,6 @@
 pub mod TableLemmas
 pub mod NodeLemmas
-mod NoteLemmas
+pub mod NoteLemmas
 pub mod ContentsLemmas
 pub mod ChildLemmas
 pub mod PutLemmas
@@ -8,10 +8,11 @@ pub mod PickLemmas
 pub mod ViewLemmas
 pub mod IdLemmas
 pub mod Growth
+pub mod FoundStays
 pub mod Layers
 pub mod FillLemmas
 pub mod ListLemmas
-pub mod VisitLemmas
+pub mod Completing
 pub mod PlaceLemmas
 pub mod ListedNodes
 pub mod ListEnd

@@ -20,7 +20,7 @@ exact_pair x y h =
 module _ {K X : Type 0} (eq : K → K → Bool) (exact : (x y : K) → eq x y ≡ true → x ≡ y) (old new : List (K × X)) (k : K) (v : X)
     (more : NotesMore eq old new k v) where
   -- a fact of each note
-  notes-all : (P : K → X → Type 0) → ((q : K) (w : X) → lookup (eq q) old ≡ Some w → P q w) → P k v
+  pub notes-all : (P : K → X → Type 0) → ((q : K) (w : X) → lookup (eq q) old ≡ Some w → P q w) → P k v
       → (q : K) (w : X) → lookup (eq q) new ≡ Some w → P q w
   notes-all P all p q w e = elim (cases_Bool (eq k q)) [
     | inl h ↦ subst (λ x. P x w) (exact k q h) (subst (P k) (same_Some v w (sym (cond-true (eq k q) (Some v) (lookup (eq q) old) h) ∙ sym (more q) ∙ e)) p)

@@ -1,4 +1,5 @@
 pub mod Contents
+pub mod FoundIds
 pub mod Gathers
 pub mod Ids
 pub mod Listing

@@ -38,3 +38,30 @@ pub enum AnyId {
     Diagram(DiagramId),
     Arrow(ArrowId),
 }
+
+impl AnyId {
+    ghost use Rattle.std.specs.Prelude.{◌≡◌, IfSome, IsSome};
+    ghost use Rattle.hashcons.specs.Ids.{IsDiagramId, IsArrowId};
+
+    /// The id as one of a diagram, if it is that.
+    pub fn as_diagram(self) -> Option<DiagramId>
+        ensures some { IsDiagramId self → IsSome result }
+        ensures same { IfSome result (λ d. self ≡ AnyId.Diagram d) }
+    {
+        match self {
+            AnyId::Diagram(d) => Some(d),
+            AnyId::Arrow(_) => None,
+        }
+    }
+
+    /// The id as one of an arrow, if it is that.
+    pub fn as_arrow(self) -> Option<ArrowId>
+        ensures some { IsArrowId self → IsSome result }
+        ensures same { IfSome result (λ a. self ≡ AnyId.Arrow a) }
+    {
+        match self {
+            AnyId::Diagram(_) => None,
+            AnyId::Arrow(a) => Some(a),
+        }
+    }
+}

@@ -1,15 +1,17 @@
 //! The interned store of diagrams and arrows: each tree once, under one id.
 #![tactic(auto)]
 
+mod completion;
 mod fill;
+mod found;
 mod id;
 mod laws;
 mod list;
 mod node;
 mod read;
 mod store;
-mod visit;
 
+pub use found::FoundIds;
 pub use id::{AnyId, ArrowId, DiagramId};
 pub use laws::lists_each_once;
 pub use node::{ArrowNode, DiagramNode};

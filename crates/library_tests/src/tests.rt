@@ -102,6 +102,11 @@ fn composes_maps(rt: HostRuntime) -> Result<(), Fail> {
     let (after_identity, before_identity) = unit_composites(rt.alloc(), &mut store, &map)?;
     assert_eq!(rt; after_identity, map);
     assert_eq!(rt; before_identity, map);
+    let unit = store
+        .known_identity(map.source)
+        .ok_or("no identity is noted")?;
+    assert_eq!(rt; store.known_composite(map.arrow, unit), Some(map.arrow));
+    assert_eq!(rt; store.known_composite(unit, map.arrow), None);
     Ok(())
 }
 

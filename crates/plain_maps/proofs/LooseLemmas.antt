@@ -22,7 +22,7 @@ use Rattle.diagram_terms.proofs.NextSteps.{by_steps}
 use Rattle.zigzag_maps.proofs.Visiting.{same_each}
 use Rattle.plain_maps.specs.Plainness.{IsPlainTree, IsPlainDiagramTree, loose_leg, plain_tests_in, leg_test, legs_at, IsArrowAt}
 use Rattle.zigzag_maps.specs.Walks.{IsWalk, tests_to_part}
-use Rattle.zigzag_maps.specs.Validity.{IsDiagramAt}
+use Rattle.zigzag_maps.specs.DiagramTests.{IsDiagramAt}
 use Rattle.zigzag_maps.proofs.VisitLemmas.{ends_place}
 
 -- the tests decide whether a diagram is plain

@@ -1,12 +1,9 @@
--- What is kept of the plain diagrams and arrows of a store is right.
-use Rattle.std.specs.Prelude.{◌≡◌, ℕ, true, nat_eq, None}
-use Rattle.std.specs.HashSet as set
-use Rattle.diagram_terms.specs.Places.{first_failure}
-use Rattle.hashcons.specs.Contents.{Contents, diagram_at, arrow_at}
+-- What is kept of the arrows of a store is right.
+use Rattle.hashcons.specs.Contents.{Contents}
+use Rattle.hashcons.specs.FoundIds.{HaveFound}
 use Rattle.plain_maps.specs.declared.plain_kept.PlainKept.{PlainKept}
-use Rattle.plain_maps.specs.Plainness.{IsPlainTree, IsIdentityTree, plain_tests_in}
+use Rattle.plain_maps.specs.Plainness.{IsPlainTree, IsIdentityTree}
 
 pub record ArePlain (c : Contents) (kept : PlainKept) : Type 0 where
-  pub diagrams : (d : ℕ) → set.contains nat_eq kept.diagrams d ≡ true → None ≡ first_failure (plain_tests_in (diagram_at c d))
-  pub arrows : (a : ℕ) → set.contains nat_eq kept.arrows a ≡ true → IsPlainTree (arrow_at c a)
-  pub identities : (a : ℕ) → set.contains nat_eq kept.identities a ≡ true → IsIdentityTree (arrow_at c a)
+  pub arrows : HaveFound c IsPlainTree kept.arrows
+  pub identities : HaveFound c IsIdentityTree kept.identities

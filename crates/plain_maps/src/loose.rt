@@ -1,4 +1,4 @@
-ghost use Rattle.std.specs.Prelude.{◌≡◌, ◌↔◌, IfOk, None, option_map, ⊤};
+ghost use Rattle.std.specs.Prelude.{◌≡◌, ◌↔◌, IfOk, None, option_map};
 ghost use Rattle.diagram_terms.specs.Places.{first_failure};
 ghost use Rattle.hashcons.specs.Contents.{IsStore, diagram_at, arrow_at};
 ghost use Rattle.zigzag_maps.specs.Found.{IsValidDiagram};
@@ -8,9 +8,9 @@ ghost use Rattle.plain_maps.specs.Plainness.{IsArrowAt, IsPlainDiagramTree, loos
 use crate::plain_arrows::is_plain_once;
 use crate::plain_kept::PlainKept;
 use diagram_terms::{End, Items, Place, Step, place_here};
-use hashcons::{AnyId, ArrowId, DiagramId, Store};
+use hashcons::{AnyId, ArrowId, DiagramId, FoundIds, Store};
 use std::alloc::{AllocError, Global};
-use zigzag_maps::{Walk, first_in};
+use zigzag_maps::{Reading, Walk, first_in};
 
 /// The steps to the first leg of a diagram that is not plain, outermost first.
 pub fn first_loose(
@@ -24,7 +24,9 @@ pub fn first_loose(
 {
     let dim = store.dim(AnyId::Diagram(d));
     let mut kept = PlainKept::new(alloc);
-    let found = first_in(alloc, store, &mut kept, dim, d)?;
+    let mut passed = FoundIds::new(alloc);
+    let mut reading = Reading { store };
+    let found = first_in(alloc, &mut reading, &mut kept, &mut passed, dim, d)?;
     Ok(steps_to(found))
 }
 
@@ -35,36 +37,23 @@ fn steps_to(found: Option<Place>) -> Option<Items<Step>>
     found.map(|place| place.steps)
 }
 
-/// The plain diagrams and arrows that were found, as a walk over the legs.
-impl Walk for PlainKept {
+/// The tests of the legs, which keep the arrows that were found plain.
+impl<'a> Walk<Reading<'a>> for PlainKept {
     ghost right = { ArePlain };
 
     ghost tests = { plain_tests_in };
 
     ghost legs = { legs_at };
 
-    ghost follows = { λ _ _. ⊤ };
-
-    ghost reflexive = { λ _. tt };
-
-    ghost transitive = { λ _ _ _ _ _. tt };
-
-    fn has_passed(&self, d: DiagramId) -> bool {
-        self.has_diagram(d)
-    }
-
-    fn keep_passed(&mut self, d: DiagramId) -> Result<(), AllocError> {
-        self.keep_diagram(d)
-    }
-
     fn leg(
         &mut self,
         alloc: Global,
-        store: &Store,
+        reading: &mut Reading<'a>,
         dim: usize,
         d: DiagramId,
         step: Step,
     ) -> Result<Option<Place>, AllocError> {
+        let store = reading.store;
         match step {
             Step::F(k) => leg_fault(alloc, store, self, dim - 1, store.fwd(d, k)),
             Step::B(k) => leg_fault(alloc, store, self, dim - 1, store.bwd(d, k)),

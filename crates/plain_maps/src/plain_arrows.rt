@@ -5,7 +5,7 @@ ghost use Rattle.plain_maps.specs.Plainness.{IsArrowAt, IsIdentityTree, IsPlainT
 
 use crate::plain_kept::PlainKept;
 use crate::plainness::{has_equal_ends, has_identity_heights};
-use hashcons::{ArrowId, Store};
+use hashcons::{AnyId, ArrowId, Store};
 use std::alloc::AllocError;
 
 /// Whether an arrow of dimension `dim` is plain, where each arrow is looked at once.
@@ -22,13 +22,13 @@ pub(crate) fn is_plain_once(
     ensures exact { IfOk result (λ yes. IsTrue yes ↔ IsPlainTree (arrow_at store.now a)) }
     ensures kept { ArePlain store.now kept.new }
 {
-    if kept.has_arrow(a) {
+    if kept.arrows.has(AnyId::Arrow(a)) {
         return Ok(true);
     }
     if !has_plain_parts(store, kept, dim, a)? {
         return Ok(false);
     }
-    kept.keep_arrow(a)?;
+    kept.arrows.keep(AnyId::Arrow(a))?;
     Ok(true)
 }
 
@@ -92,13 +92,13 @@ fn is_identity_once(
     ensures exact { IfOk result (λ yes. IsTrue yes ↔ IsIdentityTree (arrow_at store.now a)) }
     ensures kept { ArePlain store.now kept.new }
 {
-    if kept.has_identity(a) {
+    if kept.identities.has(AnyId::Arrow(a)) {
         return Ok(true);
     }
     if !has_identity_parts(store, kept, dim, a)? {
         return Ok(false);
     }
-    kept.keep_identity(a)?;
+    kept.identities.keep(AnyId::Arrow(a))?;
     Ok(true)
 }
 

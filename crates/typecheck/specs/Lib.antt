@@ -1,5 +1,4 @@
 pub mod Outcomes
-pub mod Passed
 pub mod Points
 pub mod Signatures
 pub mod Verdicts

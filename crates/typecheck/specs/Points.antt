@@ -1,9 +1,12 @@
 -- What is found at the points of a diagram's tree, where of the generators only the dimensions are looked at.
-use Rattle.std.specs.Prelude.{◌≡◌, ℕ, List, map, Option, option_map}
+use Rattle.std.specs.Prelude.{◌≡◌, ℕ, List, map, Option, None, option_map}
 use Rattle.diagram_terms.specs.Points.{Point}
 use Rattle.diagram_terms.specs.Typing.{Generator, generator_dim}
+use Rattle.hashcons.specs.declared.found.FoundIds.{FoundIds}
+use Rattle.hashcons.specs.Contents.{Contents}
+use Rattle.hashcons.specs.FoundIds.{HaveFound}
 use Rattle.typecheck.specs.declared.points.FailingPoint.{FailingPoint}
-use Rattle.typecheck.specs.Walk.{point_of}
+use Rattle.typecheck.specs.Walk.{failing_in, point_of}
 
 -- the generators have these dimensions, in order
 abbrev pub HaveDims : List Generator → List ℕ → Type 0
@@ -16,3 +19,7 @@ OfAll dims P = (generators : List Generator) → HaveDims generators dims → P 
 -- the point that was found is the wanted one
 abbrev pub Finds : List ℕ → Option FailingPoint → (List Generator → Option Point) → Type 0
 Finds dims found wanted = OfAll dims (λ generators. option_map point_of found ≡ wanted generators)
+
+-- no point fails in the diagrams that passed, as parts of an n-diagram
+abbrev pub HavePassed : Contents → List ℕ → ℕ → FoundIds → Type 0
+HavePassed c dims n passed = HaveFound c (λ t. OfAll dims (λ generators. failing_in generators n t ≡ None)) passed

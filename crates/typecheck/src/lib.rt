@@ -2,7 +2,6 @@
 #![tactic(auto)]
 
 mod laws;
-mod passed;
 mod points;
 mod refusal;
 mod signature;

@@ -3,14 +3,12 @@ ghost use Rattle.diagram_terms.specs.Points.{point_inside};
 ghost use Rattle.diagram_terms.specs.Tree.{sings};
 ghost use Rattle.diagram_terms.specs.Typing.{first_point_fault_in, is_generator};
 ghost use Rattle.hashcons.specs.Contents.{IsDiagramOf, IsStore, diagram_at};
-ghost use Rattle.zigzag_maps.specs.Validity.{IsDiagramAt};
-ghost use Rattle.typecheck.specs.Passed.{HavePassed};
-ghost use Rattle.typecheck.specs.Points.{Finds, OfAll};
+ghost use Rattle.zigzag_maps.specs.DiagramTests.{IsDiagramAt};
+ghost use Rattle.typecheck.specs.Points.{Finds, HavePassed, OfAll};
 ghost use Rattle.typecheck.specs.Walk.{may_stand, failing_in, failing_at_reg, failing_at_sing, point_of, fault_over};
 
-use crate::passed::Passed;
 use diagram_terms::{Fault, Height, Items, Label};
-use hashcons::{AnyId, DiagramId, Store};
+use hashcons::{AnyId, DiagramId, FoundIds, Store};
 use std::alloc::{AllocError, Global};
 
 /// What the label at each point of a diagram has to be: a generator's, of dimension at most the
@@ -44,18 +42,19 @@ pub(crate) fn first_failing_point(
 {
     let outer = store.dim(AnyId::Diagram(d));
     let test = PointTest { dims, outer };
-    let mut passed = Passed::new(alloc);
+    let mut passed = FoundIds::new(alloc);
     let found = failing_point(alloc, store, &test, &mut passed, outer, d)?;
     Ok(fault_at(&test, found))
 }
 
-/// The first point that fails in a diagram of dimension `dim`. Each diagram is looked at once.
+/// The first point that fails in a diagram of dimension `dim`. Each diagram is looked at once: in those
+/// of `passed` none fails.
 #[cycle(points)]
 fn failing_point(
     alloc: Global,
     store: &Store,
     test: &PointTest<'_>,
-    passed: &mut Passed,
+    passed: &mut FoundIds,
     dim: usize,
     d: DiagramId,
 ) -> Result<Option<FailingPoint>, AllocError>
@@ -66,13 +65,13 @@ fn failing_point(
         failing_in generators test.now.outer (diagram_at store.now d))) }
     ensures passed { HavePassed store.now test.now.dims.now test.now.outer passed.new }
 {
-    if passed.has(d) {
+    if passed.has(AnyId::Diagram(d)) {
         return Ok(None);
     }
     if let Some(point) = failing_by_height(alloc, store, test, passed, dim, d)? {
         return Ok(Some(point));
     }
-    passed.keep(d)?;
+    passed.keep(AnyId::Diagram(d))?;
     Ok(None)
 }
 
@@ -82,7 +81,7 @@ fn failing_by_height(
     alloc: Global,
     store: &Store,
     test: &PointTest<'_>,
-    passed: &mut Passed,
+    passed: &mut FoundIds,
     dim: usize,
     d: DiagramId,
 ) -> Result<Option<FailingPoint>, AllocError>
@@ -114,7 +113,7 @@ fn failing_over_reg(
     alloc: Global,
     store: &Store,
     test: &PointTest<'_>,
-    passed: &mut Passed,
+    passed: &mut FoundIds,
     dim: usize,
     d: DiagramId,
     j: usize,
@@ -139,7 +138,7 @@ fn failing_over_sing(
     alloc: Global,
     store: &Store,
     test: &PointTest<'_>,
-    passed: &mut Passed,
+    passed: &mut FoundIds,
     dim: usize,
     d: DiagramId,
     i: usize,

@@ -1,15 +1,13 @@
 -- What is kept stays right when one more result is kept, and when the store grows.
-use Rattle.std.proofs.Common.{◌≡◌, ℕ, Bool, true, ◌&&◌, nat_eq, sym, subst, ◌∙◌, inl, inr}
-use Rattle.std.proofs.lemmas.Bool.{and_parts, cases_Bool, cond-false, eqb-true}
-use Rattle.std.specs.HashSet as set
-use Rattle.std.specs.HashSet.{HashSet}
+use Rattle.std.proofs.Common.{◌≡◌, ℕ, true, ◌&&◌, nat_eq, sym, subst}
+use Rattle.std.proofs.lemmas.Bool.{and_parts, eqb-true}
 use Rattle.diagram_terms.specs.Tree.{Tree}
 use Rattle.hashcons.specs.Contents.{Contents, Grows}
 use Rattle.zigzag_maps.specs.declared.map.Map.{Map}
-use Rattle.zigzag_maps.specs.declared.kept.Kept.{Kept}
+use Rattle.zigzag_maps.specs.declared.kept.ValidMaps.{ValidMaps}
 use Rattle.diagram_terms.specs.ValidTrees.{IsArrowBetween, IsValidTree}
 use Rattle.zigzag_maps.specs.Found.{IsValidDiagram, IsValidMap}
-use Rattle.zigzag_maps.specs.Keeps.{same_triple, AreRight}
+use Rattle.zigzag_maps.specs.Keeps.{same_triple, AreValidMaps}
 
 -- ---- equal keys are one key
 
@@ -21,16 +19,6 @@ exact_triple x y h =
     let b = eqb-true x.1 y.1 q.1 in
     let e = eqb-true x.2 y.2 p.1 in
     λ i. (a i, b i, e i)
-
--- ---- one more entry, or no new one
-
-module _ {K S : Type 0} (eq : K → K → Bool) (exact : (x y : K) → eq x y ≡ true → x ≡ y) where
-  pub set_more : (P : K → Type 0) (old new : HashSet K S) (k : K) → set.Updates eq old new k true
-      → ((q : K) → set.contains eq old q ≡ true → P q) → P k → (q : K) → set.contains eq new q ≡ true → P q
-  set_more P old new k up all p q e = elim (cases_Bool (eq k q)) [
-    | inl h ↦ subst P (exact k q h) p
-    | inr h ↦ all q (sym (cond-false (eq k q) true (set.contains eq old q) h) ∙ sym (up.0 q) ∙ e)
-  ]
 
 -- ---- a store that grew
 
@@ -53,8 +41,5 @@ valid_map-grows old new m g h = record {
       (sym (g.diagram_trees m.target h.target.of_store)) (sym (g.arrow_trees m.arrow h.arrow)) h.between;
 }
 
-pub kept-grows : (old new : Contents) (kept : Kept) → Grows old new → AreRight old kept → AreRight new kept
-kept-grows old new kept g h = record {
-  diagrams = λ d e. valid_diagram-grows old new d g (h.diagrams d e);
-  maps = λ m e. valid_map-grows old new m g (h.maps m e);
-}
+pub maps-grow : (old new : Contents) (found : ValidMaps) → Grows old new → AreValidMaps old found → AreValidMaps new found
+maps-grow old new found g h = record { maps = λ m e. valid_map-grows old new m g (h.maps m e) }

@@ -13,7 +13,7 @@ use Rattle.diagram_terms.proofs.FirstFaults.{no_bad_place}
 use Rattle.diagram_terms.proofs.Glue.{dia-sings_len, dia-reg, dia-sing, dia-fwd, dia-bwd}
 use Rattle.zigzag_maps.proofs.Visiting.{same_each}
 use Rattle.diagram_terms.specs.ValidTrees.{IsValidTreeAt}
-use Rattle.zigzag_maps.specs.Validity.{tests_in, reg_slice_tests, sing_slice_tests, fwd_tests, bwd_tests, leg_tests, legs_of, HasValidParts}
+use Rattle.zigzag_maps.specs.DiagramTests.{tests_in, reg_slice_tests, sing_slice_tests, fwd_tests, bwd_tests, leg_tests, legs_of, HasValidParts}
 use Rattle.diagram_terms.specs.Order.{steps, in_order, PassedBefore}
 use Rattle.zigzag_maps.specs.Walks.{IsWalk, tests_in_part, tests_to_part}
 use Rattle.diagram_terms.proofs.NotionsOnTrees.{above}

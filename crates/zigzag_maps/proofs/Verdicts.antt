@@ -11,7 +11,7 @@ use Rattle.zigzag_maps.specs.declared.outcome.SquareTest.{SquareTest}
 use Rattle.zigzag_maps.specs.declared.outcome.SquareTest.TheVariants as test
 use Rattle.zigzag_maps.specs.Found.{IsValidDiagram, IsValidMap}
 use Rattle.zigzag_maps.specs.Visits.{IsMapAt, fault_of}
-use Rattle.zigzag_maps.specs.Validity.{IsDiagramAt, tests_in}
+use Rattle.zigzag_maps.specs.DiagramTests.{IsDiagramAt, tests_in}
 use Rattle.zigzag_maps.proofs.FaultSteps.{map_at-grows, map_trees, valid_map_from, valid_map_passes}
 use Rattle.zigzag_maps.proofs.ValiditySteps.{is_diagram_at-grows, kept_passes, valid_diagram_from}
 

@@ -1,5 +1,5 @@
 pub mod Found
 pub mod Keeps
 pub mod Visits
-pub mod Validity
+pub mod DiagramTests
 pub mod Walks

@@ -24,6 +24,10 @@ pub record IsWalk (tests : Tree → List Test) (legs : Tree → Step → List Te
   pub none_in_zero : (t : Tree) → IsDiagram zero t → None ≡ first_failure (tests t)
   pub parts : (n : ℕ) → 0 < n → (t : Tree) → IsDiagram n t → in_order (steps (length (sings t))) (tests_to_part tests legs t) ≡ tests t
 
+-- no test of t fails
+abbrev pub PassesTests : (Tree → List Test) → Tree → Type 0
+PassesTests tests t = None ≡ first_failure (tests t)
+
 -- the step leads to a leg
 abbrev pub LeadsToLeg : ℕ → Step → Type 0
 LeadsToLeg n step.SourceEnd = ⊥

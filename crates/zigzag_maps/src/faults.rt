@@ -6,12 +6,12 @@ ghost use Rattle.diagram_terms.specs.Places.{at_each, ends_hold, first_failure, 
 ghost use Rattle.diagram_terms.specs.Tree.{heights, regs, sings};
 ghost use Rattle.hashcons.specs.Contents.{IsDiagramOf, IsArrowOf, Grows, IsStore, diagram_at, arrow_at};
 ghost use Rattle.zigzag_maps.specs.Found.{IsValidDiagram, IsValidMap};
-ghost use Rattle.zigzag_maps.specs.Keeps.{AreRight};
+ghost use Rattle.zigzag_maps.specs.Keeps.{AreValidMaps};
 ghost use Rattle.zigzag_maps.specs.Visits.{IsMapAt, FitsEnds, HasValidSlices, fault_of, lengths_are, reg_tests, sing_tests, square_tests, square_holds};
 
 use crate::commuting::square_fault;
 use crate::composites::dual_from;
-use crate::kept::Kept;
+use crate::kept::ValidMaps;
 use crate::map::Map;
 use crate::outcome::SquareTest;
 use diagram_terms::{End, Label, Place, Step, place_here, place_under};
@@ -34,7 +34,7 @@ pub fn squares(alloc: Global, store: &mut Store, f: Map) -> Result<SquareTest, A
     if source_dim != dim || target_dim != dim {
         return Ok(SquareTest::Fault(place_here(alloc, End::Ends)));
     }
-    let mut kept = Kept::new(alloc);
+    let mut kept = ValidMaps::new(alloc);
     let found = map_fault(alloc, store, &mut kept, dim, &f)?;
     Ok(outcome_of(found))
 }
@@ -69,16 +69,16 @@ pub fn found_in(
 pub(crate) fn map_fault(
     alloc: Global,
     store: &mut Store,
-    kept: &mut Kept,
+    kept: &mut ValidMaps,
     dim: usize,
     f: &Map,
 ) -> Result<Option<Place>, AllocError>
     requires map { IsMapAt store.old dim f.now }
-    requires kept { AreRight store.old kept.old }
+    requires kept { AreValidMaps store.old kept.old }
     requires store { IsStore store.old }
     ensures exact { IfOk result (λ found. found ≡ first_failure
         (tests_between (diagram_at store.old f.now.source) (diagram_at store.old f.now.target) (arrow_at store.old f.now.arrow))) }
-    ensures kept { AreRight store.new kept.new }
+    ensures kept { AreValidMaps store.new kept.new }
     ensures grows { Grows store.old store.new }
 {
     if kept.has_valid_map(f) {
@@ -97,16 +97,16 @@ pub(crate) fn map_fault(
 fn fault_anew(
     alloc: Global,
     store: &mut Store,
-    kept: &mut Kept,
+    kept: &mut ValidMaps,
     dim: usize,
     f: &Map,
 ) -> Result<Option<Place>, AllocError>
     requires map { IsMapAt store.old dim f.now }
-    requires kept { AreRight store.old kept.old }
+    requires kept { AreValidMaps store.old kept.old }
     requires store { IsStore store.old }
     ensures exact { IfOk result (λ found. found ≡ first_failure
         (tests_between (diagram_at store.old f.now.source) (diagram_at store.old f.now.target) (arrow_at store.old f.now.arrow))) }
-    ensures kept { AreRight store.new kept.new }
+    ensures kept { AreValidMaps store.new kept.new }
     ensures grows { Grows store.old store.new }
 {
     if dim == 0 {
@@ -164,19 +164,19 @@ fn lengths_fit(store: &Store, f: &Map) -> bool
 fn regular_fault(
     alloc: Global,
     store: &mut Store,
-    kept: &mut Kept,
+    kept: &mut ValidMaps,
     dim: usize,
     f: &Map,
 ) -> Result<Option<Place>, AllocError>
     requires map { IsMapAt store.old dim f.now }
     requires above { 0 < dim }
     requires fits { FitsEnds (diagram_at store.old f.now.source) (diagram_at store.old f.now.target) (arrow_at store.old f.now.arrow) }
-    requires kept { AreRight store.old kept.old }
+    requires kept { AreValidMaps store.old kept.old }
     requires store { IsStore store.old }
     ensures exact { IfOk result (λ found. found ≡ first_failure
         (at_each (suc (length (sings (diagram_at store.old f.now.target))))
         (reg_tests (diagram_at store.old f.now.source) (diagram_at store.old f.now.target) (arrow_at store.old f.now.arrow)))) }
-    ensures kept { AreRight store.new kept.new }
+    ensures kept { AreValidMaps store.new kept.new }
     ensures grows { Grows store.old store.new }
 {
     let last = store.length(f.target);
@@ -196,7 +196,7 @@ fn regular_fault(
 fn regular_slice_fault(
     alloc: Global,
     store: &mut Store,
-    kept: &mut Kept,
+    kept: &mut ValidMaps,
     dim: usize,
     f: &Map,
     j: usize,
@@ -207,11 +207,11 @@ fn regular_slice_fault(
     requires fits { FitsEnds (diagram_at store.old f.now.source) (diagram_at store.old f.now.target) (arrow_at store.old f.now.arrow) }
     requires within { j ≤ length (sings (diagram_at store.old f.now.target)) }
     requires below { below ≡ dual (heights (arrow_at store.old f.now.arrow)) j }
-    requires kept { AreRight store.old kept.old }
+    requires kept { AreValidMaps store.old kept.old }
     requires store { IsStore store.old }
     ensures exact { IfOk result (λ found. found ≡ first_failure
         (reg_tests (diagram_at store.old f.now.source) (diagram_at store.old f.now.target) (arrow_at store.old f.now.arrow) j)) }
-    ensures kept { AreRight store.new kept.new }
+    ensures kept { AreValidMaps store.new kept.new }
     ensures grows { Grows store.old store.new }
 {
     let slice = Map {
@@ -229,19 +229,19 @@ fn regular_slice_fault(
 fn singular_fault(
     alloc: Global,
     store: &mut Store,
-    kept: &mut Kept,
+    kept: &mut ValidMaps,
     dim: usize,
     f: &Map,
 ) -> Result<Option<Place>, AllocError>
     requires map { IsMapAt store.old dim f.now }
     requires above { 0 < dim }
     requires fits { FitsEnds (diagram_at store.old f.now.source) (diagram_at store.old f.now.target) (arrow_at store.old f.now.arrow) }
-    requires kept { AreRight store.old kept.old }
+    requires kept { AreValidMaps store.old kept.old }
     requires store { IsStore store.old }
     ensures exact { IfOk result (λ found. found ≡ first_failure
         (at_each (length (sings (diagram_at store.old f.now.source)))
         (sing_tests (diagram_at store.old f.now.source) (diagram_at store.old f.now.target) (arrow_at store.old f.now.arrow)))) }
-    ensures kept { AreRight store.new kept.new }
+    ensures kept { AreValidMaps store.new kept.new }
     ensures grows { Grows store.old store.new }
 {
     for i in 0..store.length(f.source) {

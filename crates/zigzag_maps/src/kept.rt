@@ -1,5 +1,5 @@
 use crate::map::Map;
-use hashcons::{ArrowId, DiagramId};
+use hashcons::{ArrowId, DiagramId, FoundIds};
 use std::alloc::{AllocError, Global};
 use std::collections::HashSet;
 
@@ -7,14 +7,12 @@ use std::collections::HashSet;
 /// and valid maps. It stays right while the store grows.
 #[derive(Drop)]
 pub struct Kept {
-    valid_diagrams: HashSet<DiagramId>,
-    valid_maps: HashSet<(DiagramId, DiagramId, ArrowId)>,
+    pub(crate) diagrams: FoundIds,
+    pub(crate) maps: ValidMaps,
 }
 
 impl Kept {
-    ghost use Rattle.std.specs.Prelude.{IsTrue, ◌≡◌};
     ghost use Rattle.hashcons.specs.Contents.{Contents};
-    ghost use Rattle.zigzag_maps.specs.Found.{IsValidDiagram, IsValidMap};
     ghost use Rattle.zigzag_maps.specs.Keeps.{AreRight};
 
     /// Nothing yet. It takes no memory.
@@ -22,36 +20,43 @@ impl Kept {
         ensures { (c : Contents) → AreRight c result }
     {
         Kept {
-            valid_diagrams: HashSet::new(alloc),
-            valid_maps: HashSet::new(alloc),
+            diagrams: FoundIds::new(alloc),
+            maps: ValidMaps::new(alloc),
+        }
+    }
+}
+
+/// The maps that were found valid.
+#[derive(Drop)]
+pub(crate) struct ValidMaps {
+    ids: HashSet<(DiagramId, DiagramId, ArrowId)>,
+}
+
+impl ValidMaps {
+    ghost use Rattle.std.specs.Prelude.{IsTrue, ◌≡◌};
+    ghost use Rattle.hashcons.specs.Contents.{Contents};
+    ghost use Rattle.zigzag_maps.specs.Found.{IsValidMap};
+    ghost use Rattle.zigzag_maps.specs.Keeps.{AreValidMaps};
+
+    pub(crate) fn new(alloc: Global) -> ValidMaps
+        ensures { (c : Contents) → AreValidMaps c result }
+    {
+        ValidMaps {
+            ids: HashSet::new(alloc),
         }
     }
 
-    /// Whether `d` is kept as a valid diagram.
-    pub(crate) fn has_valid(&self, d: DiagramId) -> bool
-        ensures { (c : Contents) → AreRight c self.now → IsTrue result → IsValidDiagram c d }
-    {
-        self.valid_diagrams.contains(&d)
-    }
-
-    pub(crate) fn keep_valid(&mut self, d: DiagramId) -> Result<(), AllocError>
-        ensures { (c : Contents) → AreRight c self.old → IsValidDiagram c d → AreRight c self.new }
-    {
-        self.valid_diagrams.insert(d)?;
-        Ok(())
-    }
-
-    /// Whether `f` is kept as a valid map.
+    /// Whether `f` was found valid.
     pub(crate) fn has_valid_map(&self, f: &Map) -> bool
-        ensures { (c : Contents) → AreRight c self.now → IsTrue result → IsValidMap c f.now }
+        ensures { (c : Contents) → AreValidMaps c self.now → IsTrue result → IsValidMap c f.now }
     {
-        self.valid_maps.contains(&(f.source, f.target, f.arrow))
+        self.ids.contains(&(f.source, f.target, f.arrow))
     }
 
     pub(crate) fn keep_valid_map(&mut self, f: &Map) -> Result<(), AllocError>
-        ensures { (c : Contents) → AreRight c self.old → IsValidMap c f.now → AreRight c self.new }
+        ensures { (c : Contents) → AreValidMaps c self.old → IsValidMap c f.now → AreValidMaps c self.new }
     {
-        self.valid_maps.insert((f.source, f.target, f.arrow))?;
+        self.ids.insert((f.source, f.target, f.arrow))?;
         Ok(())
     }
 }

@@ -4,7 +4,6 @@
 mod commuting;
 mod composites;
 mod faults;
-mod growing;
 mod identities;
 mod kept;
 mod map;
@@ -15,11 +14,10 @@ mod walk;
 
 pub use composites::compose;
 pub use faults::{found_in, squares};
-pub use growing::{GrowingWalk, grown_in};
 pub use identities::identity;
 pub use kept::Kept;
 pub use map::Map;
 pub use order::next_step;
 pub use outcome::SquareTest;
 pub use validity::{valid, valid_keeping};
-pub use walk::{Walk, first_in};
+pub use walk::{Held, Reading, Walk, first_in};

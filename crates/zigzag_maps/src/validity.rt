@@ -1,18 +1,18 @@
-ghost use Rattle.std.specs.Prelude.{◌≡◌, ◌↔◌, ◌-◌, ◌<◌, IfOk, length, ⊤};
+ghost use Rattle.std.specs.Prelude.{◌≡◌, ◌↔◌, ◌-◌, ◌<◌, IfOk, length};
 ghost use Rattle.diagram_terms.specs.Places.{first_failure};
 ghost use Rattle.diagram_terms.specs.Tree.{sings};
 ghost use Rattle.hashcons.specs.Contents.{IsDiagramOf, Grows, IsStore, diagram_at};
 ghost use Rattle.zigzag_maps.specs.Found.{IsValidDiagram};
-ghost use Rattle.zigzag_maps.specs.Keeps.{AreRight};
-ghost use Rattle.zigzag_maps.specs.Validity.{IsDiagramAt, HasValidParts, tests_in, legs_of};
+ghost use Rattle.zigzag_maps.specs.Keeps.{AreRight, AreValidMaps};
+ghost use Rattle.zigzag_maps.specs.DiagramTests.{IsDiagramAt, HasValidParts, tests_in, legs_of};
 ghost use Rattle.diagram_terms.specs.FaultsOnTrees.{diagram_fault as diagram_fault_of};
 ghost use Rattle.zigzag_maps.specs.Visits.{fault_of};
 
 use crate::faults::{map_fault, outcome_of};
-use crate::growing::{GrowingWalk, grown_in};
-use crate::kept::Kept;
+use crate::kept::{Kept, ValidMaps};
 use crate::map::Map;
 use crate::outcome::SquareTest;
+use crate::walk::{Walk, first_in};
 use diagram_terms::{Place, Step};
 use hashcons::{AnyId, DiagramId, Store};
 use std::alloc::{AllocError, Global};
@@ -44,31 +44,17 @@ pub fn valid_keeping(
     ensures grows { Grows store.old store.new }
 {
     let dim = store.dim(AnyId::Diagram(d));
-    let found = grown_in(alloc, store, kept, dim, d)?;
+    let found = first_in(alloc, store, &mut kept.maps, &mut kept.diagrams, dim, d)?;
     Ok(outcome_of(found))
 }
 
-/// The valid diagrams and maps that were found, as a walk over the tests of a diagram.
-impl GrowingWalk for Kept {
-    ghost right = { AreRight };
+/// The tests of a diagram, where those of its legs keep the maps that were found valid.
+impl Walk<Store> for ValidMaps {
+    ghost right = { AreValidMaps };
 
     ghost tests = { tests_in };
 
     ghost legs = { legs_of };
-
-    ghost follows = { λ _ _. ⊤ };
-
-    ghost reflexive = { λ _. tt };
-
-    ghost transitive = { λ _ _ _ _ _. tt };
-
-    fn has_passed(&self, d: DiagramId) -> bool {
-        self.has_valid(d)
-    }
-
-    fn keep_passed(&mut self, store: &Store, dim: usize, d: DiagramId) -> Result<(), AllocError> {
-        self.keep_valid(d)
-    }
 
     #[tactic(auto, using(crate::proofs::ValiditySteps::diagrams))]
     fn leg(
@@ -92,7 +78,7 @@ impl GrowingWalk for Kept {
 fn fwd_fault(
     alloc: Global,
     store: &mut Store,
-    kept: &mut Kept,
+    kept: &mut ValidMaps,
     dim: usize,
     d: DiagramId,
     k: usize,
@@ -101,10 +87,10 @@ fn fwd_fault(
     requires above { 0 < dim }
     requires parts { HasValidParts (dim - 1) (diagram_at store.old d) }
     requires within { k < length (sings (diagram_at store.old d)) }
-    requires kept { AreRight store.old kept.old }
+    requires kept { AreValidMaps store.old kept.old }
     requires store { IsStore store.old }
     ensures exact { IfOk result (λ found. found ≡ first_failure (legs_of (diagram_at store.old d) (Step.F k))) }
-    ensures kept { AreRight store.new kept.new }
+    ensures kept { AreValidMaps store.new kept.new }
     ensures grows { Grows store.old store.new }
 {
     let leg = Map {
@@ -120,7 +106,7 @@ fn fwd_fault(
 fn bwd_fault(
     alloc: Global,
     store: &mut Store,
-    kept: &mut Kept,
+    kept: &mut ValidMaps,
     dim: usize,
     d: DiagramId,
     k: usize,
@@ -129,10 +115,10 @@ fn bwd_fault(
     requires above { 0 < dim }
     requires parts { HasValidParts (dim - 1) (diagram_at store.old d) }
     requires within { k < length (sings (diagram_at store.old d)) }
-    requires kept { AreRight store.old kept.old }
+    requires kept { AreValidMaps store.old kept.old }
     requires store { IsStore store.old }
     ensures exact { IfOk result (λ found. found ≡ first_failure (legs_of (diagram_at store.old d) (Step.B k))) }
-    ensures kept { AreRight store.new kept.new }
+    ensures kept { AreValidMaps store.new kept.new }
     ensures grows { Grows store.old store.new }
 {
     // a height is below a length, so the next number fits

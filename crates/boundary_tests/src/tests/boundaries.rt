@@ -1,11 +1,11 @@
-ghost use Rattle.std.specs.Prelude.{◌≡◌, IfOk, IfSome};
+ghost use Rattle.std.specs.Prelude.{IfOk};
 ghost use Rattle.diagram_terms.specs.Nodes.{AreNodes};
 
 use boundary_paths::{
     NoHeight, cone, identity_diagram, parallel, slice, source, target, type_over,
 };
 use diagram_terms::{Height, Items, Label, Node};
-use hashcons::{AnyId, DiagramId, DiagramNode, Store};
+use hashcons::{AnyId, DiagramNode, Store};
 use std::alloc::{AllocError, Global};
 use std::test::Fail;
 
@@ -35,16 +35,6 @@ fn path_nodes(alloc: Global) -> Result<Vec<Node>, AllocError>
     Ok(nodes)
 }
 
-/// The diagram that an id stands for.
-fn diagram_of(id: AnyId) -> Option<DiagramId>
-    ensures { IfSome result (λ d. id ≡ AnyId.Diagram d) }
-{
-    match id {
-        AnyId::Diagram(d) => Some(d),
-        AnyId::Arrow(_) => None,
-    }
-}
-
 #[test]
 #[tactic(auto, using(crate::proofs::Points::diagram_of_id))]
 fn follows_a_path(rt: HostRuntime) -> Result<(), Fail> {
@@ -52,10 +42,10 @@ fn follows_a_path(rt: HostRuntime) -> Result<(), Fail> {
     let nodes = path_nodes(rt.alloc())?;
     let ids = store.put_nodes(&nodes)?;
     assert_eq!(rt; ids.len(), 5);
-    let d = diagram_of(ids[4]).ok_or("an arrow")?;
+    let d = ids[4].as_diagram().ok_or("an arrow")?;
     assert_eq!(rt; slice(&store, d, &[]), Ok(d));
-    assert_eq!(rt; slice(&store, d, &[Height::S(1)]).ok(), diagram_of(ids[1]));
-    assert_eq!(rt; slice(&store, d, &[Height::R(2)]).ok(), diagram_of(ids[0]));
+    assert_eq!(rt; slice(&store, d, &[Height::S(1)]).ok(), ids[1].as_diagram());
+    assert_eq!(rt; slice(&store, d, &[Height::R(2)]).ok(), ids[0].as_diagram());
     assert_eq!(rt;
         slice(&store, d, &[Height::S(2)]),
         Err(NoHeight { step: 0 })

@@ -93,8 +93,7 @@ pub singular_cones-cone_of-requires : goal.singular_cones-cone_of-requires
 singular_cones-cone_of-requires t c =
     let inv = c.loop-i.invariant in
     let now = is_diagram_at-grows c.args.store.now c.loop-i.store c.args.dim c.args.d inv.grows c.requires.diagram in
-    let n = ap (λ u. length (sings u)) (inv.grows.diagram_trees c.args.d c.requires.diagram.of_store) in
-    (
+    let n = ap (λ u. length (sings u)) (inv.grows.diagram_trees c.args.d c.requires.diagram.of_store) in (
       search rules,
       (
         sing_slice c.loop-i.store c.args.d c.sing-slice.result c.sing-slice.ensures.of_store c.args.dim c.loop-i.i c.requires.above now (omega arith) c.sing-slice.ensures.tree,

@@ -1,6 +1,6 @@
 use Rattle.std.proofs.Common.{◌≡◌, ◌+◌, ◌*◌}
 use Rattle.hashcons.specs.Contents.{diagram_at}
-use Rattle.typecheck.specs.Passed.{HavePassed}
+use Rattle.typecheck.specs.Points.{HavePassed}
 use Rattle.typecheck.specs.Points.{OfAll}
 use Rattle.typecheck.specs.Walk.{failing_in}
 use Rattle.typecheck.proofs.PointVisits.{failing_later}

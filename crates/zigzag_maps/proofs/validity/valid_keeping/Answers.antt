@@ -9,9 +9,9 @@ returns-clause-exact c = c.outcome_of.ensures ∙ c.in_ok-found.ensures.exact �
 
 pub returns-clause-yes : goal.returns-clause-yes
 returns-clause-yes c =
-    yes_is_validity c.args.store.now c.grown_in.new.store c.dim-dim.result c.args.d c.outcome_of.result
+    yes_is_validity c.args.store.now c.first_in.new.store c.dim-dim.result c.args.d c.outcome_of.result
     c.in_ok-found.ensures.grows (record { of_store = c.requires.of_store; shape = c.dim-dim.ensures.shape })
     (c.outcome_of.ensures ∙ c.in_ok-found.ensures.exact)
 
-pub grown_in-requires-clause-law : goal.grown_in-requires-clause-law
-grown_in-requires-clause-law c = tests_walk
+pub first_in-requires-clause-law : goal.first_in-requires-clause-law
+first_in-requires-clause-law c = tests_walk

@@ -2,7 +2,7 @@ use Rattle.std.proofs.Common.{◌∙◌, sym, arith}
 use Rattle.std.proofs.lemmas.Result.{on_ok_weaker}
 use Rattle.hashcons.specs.declared.id.AnyId.TheVariants as id
 use Rattle.hashcons.proofs.ListLemmas.{visits-there, visits-insert, visits-more}
-use Rattle.hashcons.proofs.VisitLemmas.{arrow_visit, labels_visit, visits_slices}
+use Rattle.hashcons.proofs.Completing.{arrow_visit, labels_visit, visits_slices}
 use Rattle.hashcons.proofs.store.Store.+visit_arrows.Goals as goal
 
 pub visit_arrow-returns-then-contains : goal.visit_arrow-returns-then-contains

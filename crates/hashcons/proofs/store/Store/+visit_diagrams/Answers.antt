@@ -2,7 +2,7 @@ use Rattle.std.proofs.Common.{◌∙◌, sym, arith}
 use Rattle.std.proofs.lemmas.Result.{on_ok_weaker}
 use Rattle.hashcons.specs.declared.id.AnyId.TheVariants as id
 use Rattle.hashcons.proofs.ListLemmas.{visits-there, visits-insert, visits-more}
-use Rattle.hashcons.proofs.VisitLemmas.{diagram_visit, label_visit, visits_parts}
+use Rattle.hashcons.proofs.Completing.{diagram_visit, label_visit, visits_parts}
 use Rattle.hashcons.proofs.store.Store.+visit_diagrams.Goals as goal
 
 pub visit_diagram-returns-then-contains : goal.visit_diagram-returns-then-contains

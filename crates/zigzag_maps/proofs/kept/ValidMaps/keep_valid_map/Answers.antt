@@ -1,13 +1,13 @@
+use Rattle.hashcons.proofs.FoundStays.{set_more}
 use Rattle.zigzag_maps.specs.Found.{IsValidMap}
 use Rattle.zigzag_maps.specs.Keeps.{same_triple}
-use Rattle.zigzag_maps.proofs.KeepLemmas.{set_more, exact_triple}
-use Rattle.zigzag_maps.proofs.kept.Kept.keep_valid_map.Goals as goal
+use Rattle.zigzag_maps.proofs.KeepLemmas.{exact_triple}
+use Rattle.zigzag_maps.proofs.kept.ValidMaps.keep_valid_map.Goals as goal
 
 pub returns : goal.returns
 returns c = λ s h is. record {
-  diagrams = h.diagrams;
   maps = λ m. set_more same_triple exact_triple (λ p. IsValidMap s (record { source = p.0; target = p.1; arrow = p.2 }))
-      c.args.self.now.valid_maps c.insert.new.self
+      c.args.self.now.ids c.insert.new.self
       (c.args.f.now.source, c.args.f.now.target, c.args.f.now.arrow) c.in_ok-insert.ensures.updates
       (λ p. h.maps (record { source = p.0; target = p.1; arrow = p.2 })) is (m.source, m.target, m.arrow);
 }
