@@ -37,6 +37,8 @@ def expect(wanted, found):
 
 
 def main():
+    # Without words hom does nothing, once it is built.
+    subprocess.run([HOM], check=False)
     session = Session()
     # A hom that waits for more than one line would wait for ever.
     signal.alarm(60)
