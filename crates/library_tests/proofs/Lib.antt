@@ -1,2 +1,3 @@
+pub mod GrownStores
 pub mod HeldIds
 pub mod PlaceLemmas

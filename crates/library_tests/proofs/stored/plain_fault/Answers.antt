@@ -16,4 +16,4 @@ returns c =
     IfOk-weaker c.first_bad_square.result _ _ (λ found is.
     let place = c.requires.diagram in
     let shape = diagram_at c.args.nodes.now c.requires.form c.args.place place.dim place.within place.stands in
-    fault_of_tree _ _ place.dim shape c.in_ok-tree.ensures found is) c.first_bad_square.ensures
+    fault_of_tree _ _ place.dim shape c.in_ok-tree.ensures found is) c.first_bad_square.ensures.place
