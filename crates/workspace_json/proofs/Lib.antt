@@ -6,3 +6,4 @@ mod SampleCommands
 mod SampleSteps
 mod ReplyTexts
 mod SpacedTexts
+pub mod KeptRules
