@@ -1,6 +1,6 @@
 -- Workspaces by the rule, with a map more and without what is dropped.
-use Rattle.std.proofs.Common.{◌≡◌, ℕ, suc, ◌+◌, ◌≤◌, List, [], ◌∷◌, ◌++◌, map, cond, All, Bool, true, false, not, ◌||◌, Option, Some, None, Ok, Err, refl, sym, ap, subst, ◌∙◌, arith}
-use Rattle.std.specs.Prelude.{Result, bytes_eq, is_some}
+use Rattle.std.proofs.Common.{◌≡◌, ℕ, suc, ◌+◌, ◌≤◌, List, [], ◌∷◌, ◌++◌, map, cond, All, Bool, true, false, not, ◌||◌, Option, Some, None, Ok, refl, sym, ap, subst, ◌∙◌, arith}
+use Rattle.std.specs.Prelude.{bytes_eq, is_some}
 use Rattle.std.specs.List.{count_by, filter}
 use Rattle.std.proofs.lemmas.List.{map_push}
 use Rattle.std.proofs.lemmas.List.Elements.{All-append, All-cons, All-filter, All-head, All-map, All-nil, All-push, All-tail}
@@ -17,7 +17,7 @@ use Rattle.workspace_json.specs.declared.refusal.Refusal.TheVariants as refusal
 use Rattle.workspace_json.specs.ChangeLaws.{AddedMapsKeepRule, DropsKeepRule}
 use Rattle.workspace_json.specs.Maps.{IsMap, NamedMap}
 use Rattle.workspace_json.specs.Steps.{◌>>=◌, new_name, refuse_unless}
-use Rattle.workspace_json.specs.Workspaces.{IsWorkspace, NamedDiagram, NamedGenerator, Workspace, diagram_named, generators_of, is_taken, map_named, names_of, type_named, with_map, without}
+use Rattle.workspace_json.specs.Workspaces.{IsWorkspace, NamedDiagram, NamedGenerator, Workspace, diagram_named, generators_of, is_taken, map_named, names_of, type_named}
 
 abbrev IsGood : List ℕ → Type 0
 IsGood name = is_good_name name ≡ true

@@ -1,5 +1,5 @@
 -- Labels within the limits: in the trees of nodes, and in composites.
-use Rattle.std.proofs.Common.{◌≡◌, ℕ, zero, suc, ◌<◌, ◌≤◌, ◌⊎◌, inl, inr, List, [], ◌∷◌, ◌++◌, length, map, get_or, All, Bool, true, false, refl, sym, ap, subst, ◌∙◌, arith}
+use Rattle.std.proofs.Common.{◌≡◌, ℕ, zero, suc, ◌<◌, inl, inr, List, [], ◌∷◌, ◌++◌, length, map, get_or, All, Bool, true, false, refl, sym, ap, subst, ◌∙◌, arith}
 use Rattle.std.specs.Prelude.{◌==◌, ◌&&◌, if◌then◌else◌}
 use Rattle.std.specs.List.{flat_map}
 use Rattle.std.proofs.lemmas.Bool.{cases_lt}
@@ -12,12 +12,12 @@ use Rattle.diagram_terms.specs.declared.node.Sort.{Sort}
 use Rattle.diagram_terms.specs.declared.node.Sort.TheVariants as sort
 use Rattle.diagram_terms.specs.Completion.{children, completions}
 use Rattle.diagram_terms.specs.Composite.{comp}
-use Rattle.diagram_terms.specs.Decoded.{arr, arr_tree}
+use Rattle.diagram_terms.specs.Decoded.{arr}
 use Rattle.diagram_terms.specs.Dual.{dual, tab}
 use Rattle.diagram_terms.specs.Family.{Arr, arrow_reg, arrow_sing, height, no_arr, no_label}
 use Rattle.diagram_terms.specs.Nodes.{AreNodes, is_within_limits, labels_within_limits, node_tree, picked, sort_at, sorts_of, tree_at, trees_of}
-use Rattle.diagram_terms.specs.Shape.{IsArrow, IsDiagram}
-use Rattle.diagram_terms.specs.Tree.{Tree, nil, kind, label_at, from_at, to_at, point, zig, ends, zag, regs, sings, heights, kind-point, kind-zig, kind-ends, kind-zag, label_at-point, from_at-ends, to_at-ends, regs-zag, sings-zag}
+use Rattle.diagram_terms.specs.Shape.{IsArrow}
+use Rattle.diagram_terms.specs.Tree.{Tree, nil, label_at, from_at, to_at, point, zig, ends, zag, regs, sings, heights, kind-point, kind-zig, kind-ends, kind-zag, label_at-point, from_at-ends, to_at-ends}
 use Rattle.diagram_terms.proofs.Completions.{arrow_completions, children-ends, children-point, children-zag, children-zig, diagram_completions}
 use Rattle.diagram_terms.proofs.Decisions.{All-left, All-right, All-unmap}
 use Rattle.diagram_terms.proofs.Dimensions.{arrow_tree, diagram_tree}

@@ -1,5 +1,5 @@
 -- Maps that are brought and composites meet the rule.
-use Rattle.std.proofs.Common.{◌≡◌, ℕ, ◌≤◌, List, [], ◌∷◌, cond, All, Bool, true, false, Option, Some, None, Ok, Err, refl, sym, ap, subst, ◌∙◌, arith}
+use Rattle.std.proofs.Common.{◌≡◌, ℕ, ◌≤◌, List, [], ◌∷◌, cond, All, Bool, true, false, Option, Some, None, Ok, Err, refl, sym, ap, subst, ◌∙◌}
 use Rattle.std.specs.Prelude.{◌&&◌, Result, bytes_eq, nat_eq, option_map}
 use Rattle.std.proofs.lemmas.List.Elements.{All-cons, All-head, All-nil, All-tail}
 use Rattle.std.proofs.lemmas.Bool.{eqb-true}
@@ -8,7 +8,6 @@ use Rattle.diagram_terms.specs.declared.node.Node.{Node}
 use Rattle.diagram_terms.specs.declared.node.Sort.{Sort}
 use Rattle.diagram_terms.specs.declared.place.Fault.{Fault}
 use Rattle.diagram_terms.specs.declared.place.Fault.TheVariants as fault
-use Rattle.diagram_terms.specs.declared.place.Place.{Place}
 use Rattle.diagram_terms.specs.declared.place.Step.TheVariants as step
 use Rattle.diagram_terms.specs.Completion.{same_tree}
 use Rattle.diagram_terms.specs.Composite.{comp}
@@ -16,9 +15,8 @@ use Rattle.diagram_terms.specs.Decoded.{dia, arr, arr_tree}
 use Rattle.diagram_terms.specs.Dimension.{dimension_of}
 use Rattle.diagram_terms.specs.Family.{Arr}
 use Rattle.diagram_terms.specs.FaultsOnTrees.{arrow_fault, diagram_fault, tests_between}
-use Rattle.diagram_terms.specs.Nodes.{tree_at}
 use Rattle.diagram_terms.specs.Operations.{composite_tree}
-use Rattle.diagram_terms.specs.Places.{further_in, first_failure}
+use Rattle.diagram_terms.specs.Places.{further_in}
 use Rattle.diagram_terms.specs.Shape.{IsArrow, IsDiagram}
 use Rattle.diagram_terms.specs.Tree.{Tree}
 use Rattle.diagram_terms.specs.Typing.{first_of}

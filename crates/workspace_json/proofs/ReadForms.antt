@@ -1,21 +1,20 @@
 -- A command that was read has its form.
-use Rattle.std.proofs.Common.{◌≡◌, ℕ, List, [], ◌∷◌, Bool, true, false, codes, cond, Some, None, Result, Ok, Err, IfOk, refl, subst}
+use Rattle.std.proofs.Common.{◌≡◌, ℕ, List, [], ◌∷◌, Bool, true, false, codes, cond, Some, None, Result, Ok, Err, IfOk, subst}
 use Rattle.std.specs.Prelude.{bytes_eq, is_some}
 use Rattle.serde_json.specs.Data.{Data}
 use Rattle.serde_json.specs.Find.{as_object}
 use Rattle.node_json.specs.declared.fault.Field.TheVariants as field
 use Rattle.node_json.specs.declared.fault.FormFault.{FormFault}
-use Rattle.node_json.specs.declared.fault.FormFault.TheVariants as fault
-use Rattle.node_json.specs.Json.{has_keys, json_of, list_at}
+use Rattle.node_json.specs.Json.{has_keys, list_at}
 use Rattle.node_json.specs.NodeForms.{nodes_in}
 use Rattle.node_json.specs.Reading.{field_fault}
-use Rattle.node_json.specs.Step.{Gives, when, or_fault}
+use Rattle.node_json.specs.Step.{Gives, when}
 use Rattle.node_json.proofs.EntriesKept.{arrow_place_is, diagram_place_is}
 use Rattle.node_json.proofs.NodesKept.{are_nodes}
 use Rattle.node_json.proofs.Passed.{gave}
 use Rattle.workspace_json.specs.declared.command.Command.{Command}
 use Rattle.workspace_json.specs.declared.command.Command.TheVariants as command
-use Rattle.workspace_json.specs.Commands.{arrow_in, bare_row, boundary_row, bring_row, cell_row, command_of, compose_row, diagram_in, drop_row, equal_row, exact_command, generator_row, heights_at, identity_row, keyed, nodes_at, point_row, row_of, side_in, slice_row, text_in}
+use Rattle.workspace_json.specs.Commands.{arrow_in, bare_row, boundary_row, bring_row, cell_row, command_of, compose_row, diagram_in, drop_row, equal_row, generator_row, heights_at, identity_row, keyed, nodes_at, point_row, row_of, side_in, slice_row, text_in}
 use Rattle.workspace_json.specs.Forms.{HasForm}
 use Rattle.workspace_json.specs.Replies.{word_of}
 
@@ -123,7 +122,7 @@ drop_form d c e =
 bare_form : (x : Command) (d : Data) → HasForm x → Reads (bare_row x d)
 bare_form x d h c e = let k = gave (keyed (codes "do" ∷ []) d) _ c e in made x c h k.then
 
--- ---- the command of a line
+-- ---- the command of a value
 
 row_form : (word : List ℕ) (d : Data) → Reads (row_of word d)
 unfolding row_of
@@ -149,9 +148,6 @@ command_form d c e =
     let w = gave (text_in field.Do d) _ c o.then in
     row_form w.value d c w.then
 
-line_form : (line : List ℕ) → Reads (exact_command line)
-line_form line c e = let d = gave (or_fault fault.NotJson (json_of line)) command_of c e in command_form d.value c d.then
-
-pub read_form : (line : List ℕ) (answer : Result Command FormFault) → Gives (λ (c : Command). c) answer (exact_command line) → IfOk answer HasForm
-read_form line (Ok c) given = line_form line c given
-read_form line (Err e) given = tt
+pub read_form : (d : Data) (answer : Result Command FormFault) → Gives (λ (c : Command). c) answer (command_of d) → IfOk answer HasForm
+read_form d (Ok c) given = command_form d c given
+read_form d (Err e) given = tt

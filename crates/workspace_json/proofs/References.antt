@@ -3,7 +3,6 @@ use Rattle.std.proofs.Common.{◌≡◌, ℕ, ◌+◌, List, [], ◌∷◌, ◌+
 use Rattle.std.specs.Prelude.{bytes_eq}
 use Rattle.std.proofs.lemmas.List.{append_cancel_right, get_or-append-add}
 use Rattle.std.proofs.lemmas.Slice.Eq.{bytes_eq-Decides}
-use Rattle.diagram_terms.specs.Tree.{Tree}
 use Rattle.workspace_json.specs.Maps.{NamedMap}
 use Rattle.workspace_json.specs.Workspaces.{end_named, map_named}
 

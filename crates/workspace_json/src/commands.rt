@@ -261,9 +261,11 @@ fn command_of(alloc: Global, value: &Value) -> Result<Command, FormFault>
 
 /// The command that a line is, which stands here without its newline. Else the fault is that of the
 /// first test that fails: that it is JSON, an object, has one of the words at `do`, has exactly the keys
-/// of that word, and then its fields in order. `NoMemory` may come in place of any answer.
+/// of that word, and then its fields in order. `NoMemory` may come in place of any answer. What is read
+/// has the form of its command: the nodes of a map, and places of the right kind among them.
 pub fn read_command(alloc: Global, line: &[u8]) -> Result<Command, FormFault>
-    ensures { Gives (λ command. command) result (exact_command line.now) }
+    ensures exact { Gives (λ command. command) result (exact_command line.now) }
+    ensures form { IfOk result HasForm }
 {
     let value = value_of(alloc, line)?;
     command_of(alloc, &value)
