@@ -72,14 +72,14 @@ is_arrow_place nodes i stands =
     }
 
 module _ (e : FormFault) (nodes : List Node) (key : List ℕ) (d : Data) (i : ℕ) where
-  diagram_place_is : diagram_place e (sorts_of nodes) key d ≡ Ok i → IsDiagramPlace nodes i
+  pub diagram_place_is : diagram_place e (sorts_of nodes) key d ≡ Ok i → IsDiagramPlace nodes i
   diagram_place_is is =
       let g = gave (number_at e key d) _ i is in
       let h = gave (when (is_diagram (slice_get (sorts_of nodes) g.value)) e) _ i g.then in
       let same : g.value ≡ i = cc (h.then) in
       rw (← same) (is_diagram_place nodes g.value (passed (is_diagram (slice_get (sorts_of nodes) g.value)) e h.value h.was))
 
-  arrow_place_is : arrow_place e (sorts_of nodes) key d ≡ Ok i → IsArrowPlace nodes i
+  pub arrow_place_is : arrow_place e (sorts_of nodes) key d ≡ Ok i → IsArrowPlace nodes i
   arrow_place_is is =
       let g = gave (number_at e key d) _ i is in
       let h = gave (when (is_arrow (slice_get (sorts_of nodes) g.value)) e) _ i g.then in

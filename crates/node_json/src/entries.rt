@@ -32,8 +32,8 @@ fn is_arrow(sorts: &[Sort], place: usize) -> bool
     }
 }
 
-/// The place at a key, where a diagram stands.
-fn diagram_place(
+/// The place at a key, where a diagram stands; else the fault is `wrong`. It takes no memory.
+pub fn diagram_place(
     wrong: FormFault,
     sorts: &[Sort],
     key: &str,
@@ -50,8 +50,8 @@ fn diagram_place(
     }
 }
 
-/// The place at a key, where an arrow stands.
-fn arrow_place(
+/// The place at a key, where an arrow stands; else the fault is `wrong`. It takes no memory.
+pub fn arrow_place(
     wrong: FormFault,
     sorts: &[Sort],
     key: &str,

@@ -17,9 +17,12 @@ pub enum Field {
     Name,
     Source,
     Target,
+    Arrow,
     Of,
     Side,
     Path,
+    First,
+    Then,
     One,
     Two,
 }

@@ -13,7 +13,7 @@ use std::alloc::Global;
 
 /// Nodes, and the sort of each.
 #[derive(Debug, Drop)]
-pub(crate) struct Nodes {
+pub struct Nodes {
     pub nodes: Items<Node>,
     pub sorts: Items<Sort>,
 }
@@ -116,9 +116,10 @@ fn written_at(alloc: Global, place: usize, value: &Value) -> Result<Node, FormFa
     }
 }
 
-/// The nodes of a list, each behind those before it.
+/// The nodes that the values of a list are, each behind those before it, and the sort of each. Else the
+/// fault is that of the first value that is no node; `NoMemory` may come in place of any answer.
 #[tactic(auto, using(crate::proofs::MoreNodes::sorts_of_push), unfolding(crate::specs::NodeForms::node_at))]
-pub(crate) fn nodes_in(alloc: Global, list: &[Value]) -> Result<Nodes, FormFault>
+pub fn nodes_in(alloc: Global, list: &[Value]) -> Result<Nodes, FormFault>
     ensures nodes { Gives (λ read. read.nodes) result (nodes_in (map view list.now)) }
     ensures sorts { IfOk result (λ read. read.sorts ≡ sorts_of read.nodes) }
 {

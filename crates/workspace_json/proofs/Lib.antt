@@ -4,5 +4,11 @@ mod PathTurns
 mod Samples
 mod SampleCommands
 mod SampleSteps
+mod SampleMaps
 mod ReplyTexts
 mod SpacedTexts
+mod ReadForms
+mod LabelLimits
+pub mod KeptRules
+pub mod MapRules
+pub mod References

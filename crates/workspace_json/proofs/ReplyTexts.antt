@@ -16,6 +16,7 @@ refusal_no_float refusal.DimDiffers = refl
 refusal_no_float refusal.NotParallel = refl
 refusal_no_float refusal.DimLimit = refl
 refusal_no_float refusal.CountLimit = refl
+refusal_no_float refusal.EndsDiffer = refl
 refusal_no_float (refusal.NoHeight step) = refl
 refusal_no_float (refusal.IllTyped fault) = refl
 refusal_no_float refusal.NothingToUndo = refl

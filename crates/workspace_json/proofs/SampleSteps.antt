@@ -24,7 +24,7 @@ use Rattle.workspace_json.specs.Sessions.{Session, Stepped, new_session, step}
 use Rattle.workspace_json.specs.Steps.{boundary_change, drop_change, equal_answer, generator_change, identity_change, slice_answer}
 
 -- what an answer unfolds to run a session that is written out
-unfoldable session_on_literals : ⊤
+unfoldable pub session_on_literals : ⊤
 unfolding step generator_change identity_change boundary_change drop_change slice_answer equal_answer type_tree identity_diagram_tree type_over mid cone ident dimension_of kind point zig ends zag regs sings fwds bwds heights label_at from_at to_at no_dia no_arr dual after comp children node_of slice_at on_diagram
 session_on_literals = tt
 
@@ -35,12 +35,12 @@ abbrev replies_after : Stepped → List Command → List Reply
 replies_after s [] = s.reply ∷ []
 replies_after s (c ∷ cs) = s.reply ∷ replies_after (step s.session c) cs
 
-abbrev replies : Session → List Command → List Reply
+abbrev pub replies : Session → List Command → List Reply
 replies s [] = []
 replies s (c ∷ cs) = replies_after (step s c) cs
 
 -- the session after the commands
-abbrev after_all : Session → List Command → Session
+abbrev pub after_all : Session → List Command → Session
 after_all s [] = s
 after_all s (c ∷ cs) = after_all (step s c).session cs
 
@@ -56,7 +56,7 @@ f = codes "f"
 abbrev ix : List ℕ
 ix = codes "ix"
 
-abbrev new_point : List ℕ → Command
+abbrev pub new_point : List ℕ → Command
 new_point name = command.Generator name None None
 
 abbrev new_cell : List ℕ → List ℕ → List ℕ → Command

@@ -2,6 +2,7 @@
 use Rattle.std.specs.Prelude.{ℕ, List, [], ◌∷◌, codes, bytes_eq, if◌then◌else◌, Option, Some, None, is_some, option_and_then, Result, Ok, Err, ⊤}
 use Rattle.serde_json.specs.Data.{Data}
 use Rattle.serde_json.specs.Find.{as_str, as_object}
+use Rattle.diagram_terms.specs.declared.node.Node.{Node}
 use Rattle.diagram_terms.specs.declared.place.Height.{Height}
 use Rattle.diagram_terms.specs.declared.place.Side.{Side}
 use Rattle.diagram_terms.specs.declared.place.Side.TheVariants as side
@@ -9,6 +10,9 @@ use Rattle.node_json.specs.declared.fault.Field.{Field}
 use Rattle.node_json.specs.declared.fault.Field.TheVariants as field
 use Rattle.node_json.specs.declared.fault.FormFault.{FormFault}
 use Rattle.node_json.specs.declared.fault.FormFault.TheVariants as fault
+use Rattle.diagram_terms.specs.Nodes.{sorts_of}
+use Rattle.node_json.specs.Entries.{arrow_place, diagram_place}
+use Rattle.node_json.specs.NodeForms.{nodes_in}
 use Rattle.node_json.specs.Step.{◌>>=◌, when, or_fault, each}
 use Rattle.node_json.specs.Json.{json_of, has_keys, text_at, list_at}
 use Rattle.node_json.specs.Reading.{field_fault}
@@ -47,7 +51,29 @@ heights_of ds = each (λ done d. or_fault (field_fault field.Path) (option_and_t
 abbrev pub heights_at : Data → Result (List Height) FormFault
 heights_at d = list_at (field_fault field.Path) (word_of field.Path) d >>= heights_of
 
+-- the nodes of a map, each with its own fault
+abbrev pub nodes_at : Data → Result (List Node) FormFault
+nodes_at d = list_at (field_fault field.Nodes) (word_of field.Nodes) d >>= nodes_in
+
+-- the place of a field, where a diagram, or an arrow, of these nodes stands
+abbrev pub diagram_in : Field → List Node → Data → Result ℕ FormFault
+diagram_in f nodes d = diagram_place (field_fault f) (sorts_of nodes) (word_of f) d
+
+abbrev pub arrow_in : Field → List Node → Data → Result ℕ FormFault
+arrow_in f nodes d = arrow_place (field_fault f) (sorts_of nodes) (word_of f) d
+
 -- ---- one command for each word
+
+-- `{"do":"bring","name":s,"nodes":[..],"source":i,"target":j,"arrow":k}`
+unfoldable pub bring_row : Data → Result Command FormFault
+bring_row d = do
+  exact ← keyed (codes "do" ∷ codes "name" ∷ codes "nodes" ∷ codes "source" ∷ codes "target" ∷ codes "arrow" ∷ []) d
+  name ← text_in field.Name d
+  nodes ← nodes_at d
+  source ← diagram_in field.Source nodes d
+  target ← diagram_in field.Target nodes d
+  arrow ← arrow_in field.Arrow nodes d
+  Ok (command.Bring name nodes source target arrow)
 
 -- `{"do":"generator","name":s}`
 abbrev pub point_row : Data → Result Command FormFault
@@ -93,6 +119,15 @@ slice_row d = do
   path ← heights_at d
   Ok (command.Slice of path)
 
+-- `{"do":"compose","name":s,"first":s,"then":s}`
+unfoldable pub compose_row : Data → Result Command FormFault
+compose_row d = do
+  exact ← keyed (codes "do" ∷ codes "name" ∷ codes "first" ∷ codes "then" ∷ []) d
+  name ← text_in field.Name d
+  first ← text_in field.First d
+  second ← text_in field.Then d
+  Ok (command.Compose name first second)
+
 -- `{"do":"equal","one":s,"two":s}`
 unfoldable pub equal_row : Data → Result Command FormFault
 equal_row d = do
@@ -119,17 +154,19 @@ bare_row c d = do
 -- the command that an object with this word is
 unfoldable pub row_of : List ℕ → Data → Result Command FormFault
 row_of word d =
+    if bytes_eq word (codes "bring") then bring_row d else (
     if bytes_eq word (codes "generator") then generator_row d else (
     if bytes_eq word (codes "identity") then identity_row d else (
     if bytes_eq word (codes "boundary") then boundary_row d else (
     if bytes_eq word (codes "slice") then slice_row d else (
+    if bytes_eq word (codes "compose") then compose_row d else (
     if bytes_eq word (codes "equal") then equal_row d else (
     if bytes_eq word (codes "drop") then drop_row d else (
     if bytes_eq word (codes "stats") then bare_row command.Stats d else (
     if bytes_eq word (codes "save") then bare_row command.Save d else (
     if bytes_eq word (codes "undo") then bare_row command.Undo d else (
     if bytes_eq word (codes "redo") then bare_row command.Redo d else
-    Err (field_fault field.Do))))))))))
+    Err (field_fault field.Do))))))))))))
 
 -- the command that a value is: an object, then its word, then the keys and the fields of the word
 unfoldable pub command_of : Data → Result Command FormFault

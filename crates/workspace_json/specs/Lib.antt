@@ -1,8 +1,12 @@
 pub mod Places
 pub mod Paths
 pub mod Replies
+pub mod Forms
 pub mod Commands
+pub mod Maps
 pub mod Workspaces
 pub mod Saved
 pub mod Steps
+pub mod MapSteps
 pub mod Sessions
+pub mod ChangeLaws

@@ -35,6 +35,7 @@ refusal_data refusal.DimDiffers = alone (codes "refused") (codes "DimDiffers")
 refusal_data refusal.NotParallel = alone (codes "refused") (codes "NotParallel")
 refusal_data refusal.DimLimit = alone (codes "refused") (codes "DimLimit")
 refusal_data refusal.CountLimit = alone (codes "refused") (codes "CountLimit")
+refusal_data refusal.EndsDiffer = alone (codes "refused") (codes "EndsDiffer")
 refusal_data (refusal.NoHeight step) =
     object (member (codes "refused") (word (codes "NoHeight")) (member (codes "step") (whole step) no_members))
 refusal_data (refusal.IllTyped fault) =
@@ -47,6 +48,8 @@ refusal_data refusal.NothingToRedo = alone (codes "refused") (codes "NothingToRe
 abbrev pub command_word : Word → List ℕ
 command_word words.Identity = codes "identity"
 command_word words.Boundary = codes "boundary"
+command_word words.Bring = codes "bring"
+command_word words.Compose = codes "compose"
 command_word words.Drop = codes "drop"
 
 -- One object for each reply. A diagram that `look` found to be invalid has its first fault, and `no` in the place of `ok`.
@@ -105,9 +108,12 @@ word_of field.Do = codes "do"
 word_of field.Name = codes "name"
 word_of field.Source = codes "source"
 word_of field.Target = codes "target"
+word_of field.Arrow = codes "arrow"
 word_of field.Of = codes "of"
 word_of field.Side = codes "side"
 word_of field.Path = codes "path"
+word_of field.First = codes "first"
+word_of field.Then = codes "then"
 word_of field.One = codes "one"
 word_of field.Two = codes "two"
 

@@ -1,6 +1,6 @@
 -- What each command does to a workspace: the first refusal in the order of its tests, or else its reply and the workspace
 -- after it.
-use Rattle.std.specs.Prelude.{ℕ, List, [], ◌∷◌, length, Bool, true, false, nat_lt, Option, Some, None, is_none, Result, Ok, Err, ⊤}
+use Rattle.std.specs.Prelude.{ℕ, List, [], ◌∷◌, length, Bool, true, false, not, nat_lt, Option, Some, None, Result, Ok, Err, ⊤}
 use Rattle.diagram_terms.specs.declared.limits.TheConstants.{GREATEST_DIM}
 use Rattle.diagram_terms.specs.declared.place.Fault.{Fault}
 use Rattle.diagram_terms.specs.declared.place.Height.{Height}
@@ -23,7 +23,7 @@ use Rattle.workspace_json.specs.declared.reply.Reply.TheVariants as reply
 use Rattle.workspace_json.specs.declared.reply.Word.{Word}
 use Rattle.workspace_json.specs.declared.reply.Word.TheVariants as word
 use Rattle.workspace_json.specs.Saved.{document_of, stats_of}
-use Rattle.workspace_json.specs.Workspaces.{Workspace, diagram_named, generators_of, term, with_diagram, with_generator, without_diagram}
+use Rattle.workspace_json.specs.Workspaces.{Workspace, can_be_dropped, generators_of, is_taken, reference, term, with_diagram, with_generator, without}
 
 -- ---- tests, up to the first that refuses
 
@@ -45,11 +45,15 @@ or_refuse r None = Err r
 abbrev pub new_name : Workspace → List ℕ → Result ⊤ Refusal
 new_name W name = do
   good ← refuse_unless (is_good_name name) refusal.NameBad
-  refuse_unless (is_none (term W name)) refusal.NameTaken
+  refuse_unless (not (is_taken W name)) refusal.NameTaken
 
 -- the diagram that a term names
 abbrev pub known : Workspace → List ℕ → Result Tree Refusal
 known W name = or_refuse (refusal.Unknown name) (term W name)
+
+-- the diagram that a reference names
+abbrev pub referred : Workspace → List ℕ → Result Tree Refusal
+referred W text = or_refuse (refusal.Unknown text) (reference W text)
 
 abbrev pub no_fault : Option Fault → Result ⊤ Refusal
 no_fault None = Ok tt
@@ -129,11 +133,11 @@ boundary_change W name of end = do
   above ← refuse_unless (nat_lt 0 (dimension_of t)) (refusal.NoHeight 0)
   stored W word.Boundary name (end_of end t)
 
--- `drop`: the stored diagram of the name is taken away; a generator is never
+-- `drop`: the stored diagram or the map of the name is taken away; a generator is never
 unfoldable pub drop_change : Workspace → List ℕ → Result Changed Refusal
 drop_change W name = do
-  there ← or_refuse (refusal.Unknown name) (diagram_named W.diagrams name)
-  Ok record { reply = reply.Named name word.Drop; workspace = without_diagram W name }
+  there ← refuse_unless (can_be_dropped W name) (refusal.Unknown name)
+  Ok record { reply = reply.Named name word.Drop; workspace = without W name }
 
 -- ---- commands that read the workspace
 
@@ -151,15 +155,15 @@ abbrev pub slice_found : Result Tree ℕ → Result Reply Refusal
 slice_found (Ok t) = Ok (printed t)
 slice_found (Err step) = Err (refusal.NoHeight step)
 
--- `slice`: the slice of a term along a path
+-- `slice`: the slice of a reference along a path
 unfoldable pub slice_answer : Workspace → List ℕ → List Height → Result Reply Refusal
-slice_answer W of path = known W of >>= λ t. slice_found (slice_along t path)
+slice_answer W of path = referred W of >>= λ t. slice_found (slice_along t path)
 
--- `equal`: whether two terms are one tree
+-- `equal`: whether two references are one tree
 unfoldable pub equal_answer : Workspace → List ℕ → List ℕ → Result Reply Refusal
 equal_answer W one two = do
-  s ← known W one
-  t ← known W two
+  s ← referred W one
+  t ← referred W two
   Ok (reply.Equal (same_tree s t))
 
 -- `stats` and `save`

@@ -1,8 +1,16 @@
-use diagram_terms::{Height, Items, Side, Text};
+use diagram_terms::{Height, Items, Node, Side, Text};
 
 /// One line of input to a session.
 #[derive(Debug, Drop)]
 pub enum Command {
+    /// A new map: an arrow and its ends, which stand at places of these nodes.
+    Bring {
+        name: Text,
+        nodes: Items<Node>,
+        source: usize,
+        target: usize,
+        arrow: usize,
+    },
     /// A new generator: a point, or a cell between two diagrams, of which both are named.
     Generator {
         name: Text,
@@ -24,6 +32,12 @@ pub enum Command {
     Slice {
         of: Text,
         path: Items<Height>,
+    },
+    /// The composite of two maps, under a name: the first, and then the other.
+    Compose {
+        name: Text,
+        first: Text,
+        then_: Text,
     },
     /// Whether two diagrams are the same.
     Equal {

@@ -1,13 +1,19 @@
-ghost use Rattle.std.specs.Prelude.{◌≡◌, map};
+ghost use Rattle.std.specs.Prelude.{◌≡◌, map, List, IfOk};
 ghost use Rattle.serde_json.specs.View.{view};
+ghost use Rattle.diagram_terms.specs.declared.node.Node.{Node};
+ghost use Rattle.diagram_terms.specs.Nodes.{sorts_of};
 ghost use Rattle.node_json.specs.Step.{Gives, GivesExactly};
-ghost use Rattle.workspace_json.specs.Commands.{text_in, keyed, side_of, side_in, heights_of, heights_at, point_row, cell_row, generator_row, identity_row, boundary_row, slice_row, equal_row, drop_row, bare_row, row_of, command_of, exact_command};
+ghost use Rattle.workspace_json.specs.Commands.{text_in, keyed, side_of, side_in, heights_of, heights_at, nodes_at, diagram_in, arrow_in, bring_row, point_row, cell_row, generator_row, identity_row, boundary_row, slice_row, compose_row, equal_row, drop_row, bare_row, row_of, command_of, exact_command};
+ghost use Rattle.workspace_json.specs.Forms.{HasForm};
 
 use crate::command::Command;
 use crate::paths::height_of;
 use crate::writing::field_word;
-use diagram_terms::{Height, Items, Side, Text};
-use node_json::{Field, FormFault, field_fault, has_keys, list_at, text_at, value_of};
+use diagram_terms::{Height, Items, Side, Sort, Text};
+use node_json::{
+    Field, FormFault, Nodes, arrow_place, diagram_place, field_fault, has_keys, list_at, nodes_in,
+    text_at, value_of,
+};
 use serde_json::Value;
 use std::alloc::Global;
 
@@ -68,6 +74,61 @@ fn heights_at(alloc: Global, value: &Value) -> Result<Items<Height>, FormFault>
 {
     let list = list_at(field_fault(Field::Path), value, field_word(Field::Path))?;
     heights_of(alloc, list)
+}
+
+fn nodes_at(alloc: Global, value: &Value) -> Result<Nodes, FormFault>
+    ensures nodes { Gives (λ read. read.nodes) result (nodes_at (view value.now)) }
+    ensures sorts { IfOk result (λ read. read.sorts ≡ sorts_of read.nodes) }
+{
+    let list = list_at(field_fault(Field::Nodes), value, field_word(Field::Nodes))?;
+    nodes_in(alloc, list)
+}
+
+/// The place at a field, where a diagram of these nodes stands.
+fn diagram_in(field: Field, nodes: &Nodes, value: &Value) -> Result<usize, FormFault>
+    requires { nodes.now.sorts ≡ sorts_of nodes.now.nodes }
+    ensures { GivesExactly (λ place. place) result
+        (diagram_in field nodes.now.nodes (view value.now)) }
+{
+    diagram_place(
+        field_fault(field),
+        nodes.sorts.as_slice(),
+        field_word(field),
+        value,
+    )
+}
+
+/// The place at a field, where an arrow of these nodes stands.
+fn arrow_in(field: Field, nodes: &Nodes, value: &Value) -> Result<usize, FormFault>
+    requires { nodes.now.sorts ≡ sorts_of nodes.now.nodes }
+    ensures { GivesExactly (λ place. place) result
+        (arrow_in field nodes.now.nodes (view value.now)) }
+{
+    arrow_place(
+        field_fault(field),
+        nodes.sorts.as_slice(),
+        field_word(field),
+        value,
+    )
+}
+
+#[tactic(auto, unfolding(crate::specs::Commands::bring_row))]
+fn bring_row(alloc: Global, value: &Value) -> Result<Command, FormFault>
+    ensures { Gives (λ command. command) result (bring_row (view value.now)) }
+{
+    keyed(value, &["do", "name", "nodes", "source", "target", "arrow"])?;
+    let name = text_in(alloc, Field::Name, value)?;
+    let nodes = nodes_at(alloc, value)?;
+    let source = diagram_in(Field::Source, &nodes, value)?;
+    let target = diagram_in(Field::Target, &nodes, value)?;
+    let arrow = arrow_in(Field::Arrow, &nodes, value)?;
+    Ok(Command::Bring {
+        name,
+        nodes: nodes.nodes,
+        source,
+        target,
+        arrow,
+    })
 }
 
 fn point_row(alloc: Global, value: &Value) -> Result<Command, FormFault>
@@ -136,6 +197,18 @@ fn slice_row(alloc: Global, value: &Value) -> Result<Command, FormFault>
     })
 }
 
+#[tactic(auto, unfolding(crate::specs::Commands::compose_row))]
+fn compose_row(alloc: Global, value: &Value) -> Result<Command, FormFault>
+    ensures { Gives (λ command. command) result (compose_row (view value.now)) }
+{
+    keyed(value, &["do", "name", "first", "then"])?;
+    Ok(Command::Compose {
+        name: text_in(alloc, Field::Name, value)?,
+        first: text_in(alloc, Field::First, value)?,
+        then_: text_in(alloc, Field::Then, value)?,
+    })
+}
+
 #[tactic(auto, unfolding(crate::specs::Commands::equal_row))]
 fn equal_row(alloc: Global, value: &Value) -> Result<Command, FormFault>
     ensures { Gives (λ command. command) result (equal_row (view value.now)) }
@@ -170,10 +243,12 @@ fn row_of(alloc: Global, word: &str, value: &Value) -> Result<Command, FormFault
     ensures { Gives (λ command. command) result (row_of word.now (view value.now)) }
 {
     match word {
+        "bring" => bring_row(alloc, value),
         "generator" => generator_row(alloc, value),
         "identity" => identity_row(alloc, value),
         "boundary" => boundary_row(alloc, value),
         "slice" => slice_row(alloc, value),
+        "compose" => compose_row(alloc, value),
         "equal" => equal_row(alloc, value),
         "drop" => drop_row(alloc, value),
         "stats" => bare_row(Command::Stats, value),
@@ -196,9 +271,11 @@ fn command_of(alloc: Global, value: &Value) -> Result<Command, FormFault>
 
 /// The command that a line is, which stands here without its newline. Else the fault is that of the
 /// first test that fails: that it is JSON, an object, has one of the words at `do`, has exactly the keys
-/// of that word, and then its fields in order. `NoMemory` may come in place of any answer.
+/// of that word, and then its fields in order. `NoMemory` may come in place of any answer. What is read
+/// has the form of its command: the nodes of a map, and places of the right kind among them.
 pub fn read_command(alloc: Global, line: &[u8]) -> Result<Command, FormFault>
-    ensures { Gives (λ command. command) result (exact_command line.now) }
+    ensures exact { Gives (λ command. command) result (exact_command line.now) }
+    ensures form { IfOk result HasForm }
 {
     let value = value_of(alloc, line)?;
     command_of(alloc, &value)

@@ -1,6 +1,7 @@
 //! The bytes of commands, replies, form faults and paths, and of documents through `node_json`.
 #![tactic(auto)]
 
+mod change_laws;
 mod command;
 mod commands;
 mod path_laws;
@@ -10,6 +11,7 @@ mod reply;
 mod texts;
 mod writing;
 
+pub use change_laws::changes_keep_the_rule;
 pub use command::Command;
 pub use commands::read_command;
 pub use node_json::{

@@ -17,9 +17,11 @@ pub enum Refusal {
     DimLimit,
     /// There are as many generators as there may be.
     CountLimit,
+    /// The target of the first map is not the source of the other.
+    EndsDiffer,
     /// The step of the path, counted from 0, names no height of its slice.
     NoHeight { step: usize },
-    /// A diagram is not well typed over the generators: its first fault.
+    /// A diagram is not well typed over the generators, or a map is not valid: its first fault.
     IllTyped(Fault),
     /// No change is left to be undone.
     NothingToUndo,

@@ -7,6 +7,8 @@ use node_json::Document;
 pub enum Word {
     Identity,
     Boundary,
+    Bring,
+    Compose,
     Drop,
 }
 

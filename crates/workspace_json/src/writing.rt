@@ -74,6 +74,7 @@ fn refusal_value(alloc: Global, refusal: &Refusal) -> Result<Value, AllocError>
         Refusal::NotParallel => refused_value(alloc, "NotParallel"),
         Refusal::DimLimit => refused_value(alloc, "DimLimit"),
         Refusal::CountLimit => refused_value(alloc, "CountLimit"),
+        Refusal::EndsDiffer => refused_value(alloc, "EndsDiffer"),
         Refusal::NoHeight { step } =>
             json!(in alloc; {"refused": "NoHeight", "step": *step as u64}),
         Refusal::IllTyped(fault) => ill_typed_value(alloc, fault),
@@ -89,6 +90,8 @@ fn command_word(word: Word) -> &'static str
     match word {
         Word::Identity => "identity",
         Word::Boundary => "boundary",
+        Word::Bring => "bring",
+        Word::Compose => "compose",
         Word::Drop => "drop",
     }
 }
@@ -192,9 +195,12 @@ pub(crate) fn field_word(field: Field) -> &'static str
         Field::Name => "name",
         Field::Source => "source",
         Field::Target => "target",
+        Field::Arrow => "arrow",
         Field::Of => "of",
         Field::Side => "side",
         Field::Path => "path",
+        Field::First => "first",
+        Field::Then => "then",
         Field::One => "one",
         Field::Two => "two",
     }

@@ -116,6 +116,16 @@ fn writes_changes(rt: HostRuntime) -> Result<(), Fail> {
         word: Word::Drop,
     };
     assert!(rt; is_written(alloc, dropped, "{\"name\":\"s\",\"ok\":\"drop\"}")?);
+    let brought = Reply::Named {
+        name: named(alloc, "m")?,
+        word: Word::Bring,
+    };
+    assert!(rt; is_written(alloc, brought, "{\"name\":\"m\",\"ok\":\"bring\"}")?);
+    let composed = Reply::Named {
+        name: named(alloc, "gf")?,
+        word: Word::Compose,
+    };
+    assert!(rt; is_written(alloc, composed, "{\"name\":\"gf\",\"ok\":\"compose\"}")?);
     assert!(rt; is_written(alloc, Reply::Undo, "{\"ok\":\"undo\"}")?);
     assert!(rt; is_written(alloc, Reply::Redo, "{\"ok\":\"redo\"}")?);
     Ok(())
@@ -171,6 +181,7 @@ fn writes_refusals(rt: HostRuntime) -> Result<(), Fail> {
     assert!(rt; is_refused(alloc, Refusal::NotParallel, "{\"refused\":\"NotParallel\"}")?);
     assert!(rt; is_refused(alloc, Refusal::DimLimit, "{\"refused\":\"DimLimit\"}")?);
     assert!(rt; is_refused(alloc, Refusal::CountLimit, "{\"refused\":\"CountLimit\"}")?);
+    assert!(rt; is_refused(alloc, Refusal::EndsDiffer, "{\"refused\":\"EndsDiffer\"}")?);
     let want = "{\"refused\":\"NoHeight\",\"step\":0}";
     assert!(rt; is_refused(alloc, Refusal::NoHeight { step: 0 }, want)?);
     let want = "{\"refused\":\"NothingToUndo\"}";
@@ -184,11 +195,11 @@ fn writes_refusals(rt: HostRuntime) -> Result<(), Fail> {
 fn writes_faults(rt: HostRuntime) -> Result<(), Fail> {
     let alloc = rt.alloc();
     let place = Place {
-        steps: Items::from_slice(alloc, &[Step::F(0)])?,
+        steps: Items::from_slice(alloc, &[Step::TargetEnd, Step::F(0)])?,
         end: End::Ends,
     };
     let square = Refusal::IllTyped(Fault::SquareAt(place));
-    let want = "{\"at\":\"f0 ends\",\"fault\":\"square\",\"refused\":\"IllTyped\"}";
+    let want = "{\"at\":\"target f0 ends\",\"fault\":\"square\",\"refused\":\"IllTyped\"}";
     assert!(rt; is_refused(alloc, square, want)?);
     let leg = Items::from_slice(alloc, &[Step::S(2), Step::B(10)])?;
     let loose = Refusal::IllTyped(Fault::LooseAt(leg));
@@ -268,6 +279,10 @@ fn reads_commands(rt: HostRuntime) -> Result<(), Fail> {
             "Equal { one: Text { text: \"x\" }, two: Text { text: \"y\" } }",
         ),
         (
+            "{\"do\":\"compose\",\"then\":\"g\",\"first\":\"f\",\"name\":\"gf\"}",
+            "Compose { name: Text { text: \"gf\" }, first: Text { text: \"f\" }, then_: Text { text: \"g\" } }",
+        ),
+        (
             "{\"do\":\"drop\",\"name\":\"a b\"}",
             "Drop { name: Text { text: \"a b\" } }",
         ),
@@ -289,6 +304,47 @@ fn reads_commands(rt: HostRuntime) -> Result<(), Fail> {
     };
     assert!(rt; of.as_str() == "f");
     assert!(rt; path.as_slice() == [Height::S(0), Height::R(12)].as_slice());
+    Ok(())
+}
+
+/// A line that brings the arrow from one label to another, under these places.
+fn bring(alloc: Global, nodes: &str, source: u8, target: u8, arrow: u8) -> Result<String, Fail> {
+    Ok(format!(in alloc;
+        "{{\"arrow\":{arrow},\"do\":\"bring\",\"name\":\"m\",\"nodes\":[{nodes}],\"source\":{source},\"target\":{target}}}"
+    )?)
+}
+
+const ARROW: &str = "{\"label\":[7,0]},{\"label\":[8,1]},{\"labels\":[[7,0],[8,1]]}";
+
+#[test]
+fn brings_maps(rt: HostRuntime) -> Result<(), Fail> {
+    let alloc = rt.alloc();
+    let line = bring(alloc, ARROW, 0, 1, 2)?;
+    let Command::Bring {
+        name,
+        nodes,
+        source,
+        target,
+        arrow,
+    } = read_command(alloc, line.as_bytes())?
+    else {
+        return Err("no bring".into());
+    };
+    assert!(rt; name.as_str() == "m");
+    assert_eq!(rt; nodes.len(), 3);
+    assert_eq!(rt; (source, target, arrow), (0, 1, 2));
+    let field = |field: Field| Some(FormFault::Form { field, entry: None });
+    for (nodes, source, target, arrow, want) in [
+        (ARROW, 2, 1, 2, field(Field::Source)),
+        (ARROW, 0, 3, 2, field(Field::Target)),
+        (ARROW, 0, 1, 1, field(Field::Arrow)),
+        ("{\"label\":[7]}", 0, 1, 2, Some(FormFault::Shape(0))),
+        ("{\"label\":[60000,0]}", 0, 1, 2, Some(FormFault::Label(0))),
+    ] {
+        let line = bring(alloc, nodes, source, target, arrow)?;
+        let fault = read_command(alloc, line.as_bytes()).err();
+        assert_eq!(rt; fault, want, "{line}");
+    }
     Ok(())
 }
 
@@ -342,6 +398,14 @@ fn refuses_commands(rt: HostRuntime) -> Result<(), Fail> {
         (
             "{\"do\":\"equal\",\"one\":\"x\",\"two\":{}}",
             field(Field::Two),
+        ),
+        (
+            "{\"do\":\"compose\",\"name\":\"c\",\"first\":1,\"then\":2}",
+            field(Field::First),
+        ),
+        (
+            "{\"do\":\"compose\",\"name\":\"c\",\"first\":\"f\",\"then\":2}",
+            field(Field::Then),
         ),
     ] {
         let fault = read_command(alloc, line.as_bytes()).err();

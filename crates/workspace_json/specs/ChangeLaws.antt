@@ -1,0 +1,26 @@
+-- The laws of changes with maps: what is added or taken away leaves a workspace that meets the rule.
+use Rattle.std.specs.Prelude.{◌≡◌, ℕ, List, Ok}
+use Rattle.diagram_terms.specs.declared.node.Node.{Node}
+use Rattle.workspace_json.specs.Forms.{IsBrought}
+use Rattle.workspace_json.specs.Maps.{IsMap, NamedMap}
+use Rattle.workspace_json.specs.MapSteps.{bring_change, compose_change}
+use Rattle.workspace_json.specs.Steps.{Changed, new_name}
+use Rattle.workspace_json.specs.Workspaces.{IsWorkspace, Workspace, with_map, without}
+
+-- a map by the rule, under a new name
+abbrev pub AddedMapsKeepRule : Type 0
+AddedMapsKeepRule = (W : Workspace) (m : NamedMap) → IsWorkspace W → new_name W m.name ≡ Ok tt → IsMap m → IsWorkspace (with_map W m)
+
+-- what is dropped
+abbrev pub DropsKeepRule : Type 0
+DropsKeepRule = (W : Workspace) (name : List ℕ) → IsWorkspace W → IsWorkspace (without W name)
+
+-- a map that is brought, over nodes that have the form and places of the right kind
+abbrev pub BroughtMapsKeepRule : Type 0
+BroughtMapsKeepRule = (W : Workspace) (name : List ℕ) (nodes : List Node) (source target arrow : ℕ) (c : Changed)
+    → IsWorkspace W → IsBrought nodes source target arrow → bring_change W name nodes source target arrow ≡ Ok c → IsWorkspace c.workspace
+
+-- a composite
+abbrev pub CompositesKeepRule : Type 0
+CompositesKeepRule = (W : Workspace) (name first second : List ℕ) (c : Changed)
+    → IsWorkspace W → compose_change W name first second ≡ Ok c → IsWorkspace c.workspace
