@@ -1,0 +1,9 @@
+pub mod KeptFactors
+pub mod FactorsBySlices
+pub mod FactorsInStore
+pub mod FactorMaps
+pub mod DegenerateShapes
+pub mod DegeneraciesInStore
+pub mod ParallelParts
+pub mod PartsOnTrees
+pub mod PartsInStore
