@@ -4,12 +4,12 @@ ghost use Rattle.hashcons.specs.Contents.{Grows, IsArrowOf, IsDiagramOf};
 ghost use Rattle.zigzag_maps.specs.Found.{IsValidMap};
 ghost use Rattle.degeneracy.specs.DegeneracyTrees.{IsDegeneracyMap};
 
-use degeneracy::{factor, is_degeneracy};
+use degeneracy::{factor, is_degeneracy, split};
 use hashcons::{AnyId, ArrowId, DiagramId, Store};
 use node_json::{Document, FormFault, read_document};
 use std::alloc::Global;
 use std::test::Fail;
-use zigzag_maps::{Map, SquareTest, squares, valid};
+use zigzag_maps::{Map, SquareTest, identity, squares, valid};
 
 /// The document with these nodes, and no entries.
 fn document_of(alloc: Global, nodes: &str) -> Result<Document, FormFault>
@@ -149,4 +149,51 @@ pub(crate) fn factor_of(
     }
     check_degeneracy(alloc, store, d)?;
     Ok(factor(alloc, store, f, d)?)
+}
+
+/// Whether the factor of a degeneracy through itself is the identity of its source.
+#[tactic(auto, using(degeneracy::proofs::DegeneraciesInStore::degenerating))]
+pub(crate) fn has_unit_factor(alloc: Global, store: &mut Store, map: &Map) -> Result<bool, Fail>
+    requires { IsValidMap store.old map.now }
+{
+    let source = map.source;
+    let found = factor_of(alloc, store, *map, *map)?;
+    let unit = identity(alloc, store, source)?;
+    Ok(found == Some(unit))
+}
+
+/// The two parts of a degeneracy, which has to be above dimension 0.
+#[tactic(auto, using(degeneracy::proofs::DegeneraciesInStore::degenerating))]
+fn parts_of(alloc: Global, store: &mut Store, d: Map) -> Result<(Map, Map), Fail>
+    requires { IsValidMap store.old d }
+    ensures { Grows store.old store.new }
+{
+    check_degeneracy(alloc, store, d)?;
+    if store.dim(AnyId::Arrow(d.arrow)) == 0 {
+        return Err(Fail::from("the map has dimension 0"));
+    }
+    Ok(split(alloc, store, d)?)
+}
+
+/// Whether the parts of a degeneracy are itself and an identity: it first if it is simple, and else last.
+#[tactic(auto, using(degeneracy::proofs::DegeneraciesInStore::degenerating))]
+pub(crate) fn has_parts(
+    alloc: Global,
+    store: &mut Store,
+    map: &Map,
+    is_simple: bool,
+) -> Result<bool, Fail>
+    requires { IsValidMap store.old map.now }
+{
+    let source = map.source;
+    let target = map.target;
+    let arrow = map.arrow;
+    let (first, second) = parts_of(alloc, store, *map)?;
+    let before = identity(alloc, store, source)?;
+    let behind = identity(alloc, store, target)?;
+    if is_simple {
+        Ok(first.arrow == arrow && second.arrow == behind.arrow)
+    } else {
+        Ok(first.arrow == before.arrow && second.arrow == arrow)
+    }
 }

@@ -1,4 +1,4 @@
-use crate::stored::{factor_of, map_of, maps_of};
+use crate::stored::{factor_of, has_parts, has_unit_factor, map_of, maps_of};
 use degeneracy::is_degeneracy;
 use hashcons::Store;
 use std::test::Fail;
@@ -33,5 +33,23 @@ fn factors_are_missed(rt: HostRuntime) -> Result<(), Fail> {
     let mut store = Store::new(rt.alloc());
     let (first, second) = maps_of(rt.alloc(), &mut store, NODES, FIRST, SECOND)?;
     assert_eq!(rt; factor_of(rt.alloc(), &mut store, first, second)?, None);
+    Ok(())
+}
+
+#[test]
+fn degeneracies_have_unit_factors(rt: HostRuntime) -> Result<(), Fail> {
+    let mut store = Store::new(rt.alloc());
+    let map = map_of(rt.alloc(), &mut store, NODES, SECOND)?;
+    assert!(rt; has_unit_factor(rt.alloc(), &mut store, &map)?);
+    Ok(())
+}
+
+#[test]
+fn simple_parts_come_first(rt: HostRuntime) -> Result<(), Fail> {
+    for (places, is_simple) in [(SECOND, true), (ABOVE, false)] {
+        let mut store = Store::new(rt.alloc());
+        let map = map_of(rt.alloc(), &mut store, NODES, places)?;
+        assert!(rt; has_parts(rt.alloc(), &mut store, &map, is_simple)?);
+    }
     Ok(())
 }
