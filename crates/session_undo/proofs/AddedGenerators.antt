@@ -25,20 +25,21 @@ use Rattle.workspace_lists.specs.declared.workspace.Generator.{Generator as Kept
 use Rattle.workspace_lists.specs.Held.{IsGeneratorOf, generator_over, generators_over, trees_in}
 use Rattle.workspace_lists.specs.Names.{knows}
 use Rattle.session_undo.specs.Added.{stop_of}
-use Rattle.session_undo.specs.declared.edit.Edit.{Edit}
-use Rattle.session_undo.specs.declared.edit.Edit.TheVariants as edit
-use Rattle.session_undo.specs.declared.state.State.{State}
+use Rattle.session_undo.specs.Outcomes.{ComesTo}
+use Rattle.session_state.specs.declared.edit.Edit.{Edit}
+use Rattle.session_state.specs.declared.edit.Edit.TheVariants as edit
+use Rattle.session_state.specs.declared.state.State.{State}
 use Rattle.session_undo.specs.declared.stop.Stop.{Stop}
 use Rattle.session_undo.specs.declared.stop.Stop.TheVariants as stop
-use Rattle.session_undo.specs.Edits.{edited}
-use Rattle.session_undo.specs.Meanings.{generator}
-use Rattle.session_undo.specs.States.{CanAccept, ComesTo, HasRoomForEdit, HasRoomForOne, IsState, entries_over, lists_of, present_of}
+use Rattle.session_state.specs.Edits.{edited}
+use Rattle.session_state.specs.Meanings.{generator}
+use Rattle.session_state.specs.States.{CanAccept, HasRoomForEdit, HasRoomForOne, IsState, entries_over, lists_of, present_of}
 use Rattle.workspace_lists.proofs.ForCallers.{trees-kept}
-use Rattle.session_undo.proofs.GrownSessions.{good-kept, history-kept, telling-kept}
-use Rattle.session_undo.proofs.Histories.{diagrams_put-le}
+use Rattle.session_state.proofs.GrownSessions.{good-kept, history-kept, telling-kept}
+use Rattle.session_state.proofs.Histories.{diagrams_put-le}
 use Rattle.session_undo.proofs.WorkspaceRules.{IsNew, with_generator_rule}
-use Rattle.session_undo.proofs.StateGrowth.{grown}
-use Rattle.session_undo.proofs.StateInvariant.{entry, generators_are}
+use Rattle.session_state.proofs.StateGrowth.{grown}
+use Rattle.session_state.proofs.StateInvariant.{entry, generators_are}
 
 -- ---- the command, test by test
 

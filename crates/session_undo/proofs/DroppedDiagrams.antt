@@ -17,14 +17,14 @@ use Rattle.workspace_json.specs.Workspaces.{IsWorkspace, NamedDiagram, NamedGene
 use Rattle.workspace_lists.specs.declared.workspace.Named.{Named}
 use Rattle.workspace_lists.specs.Held.{Lists, diagram_over, diagrams_over, trees_in}
 use Rattle.workspace_lists.specs.Names.{knows}
-use Rattle.session_undo.specs.declared.edit.Edit.{Edit}
-use Rattle.session_undo.specs.declared.edit.Edit.TheVariants as edit
-use Rattle.session_undo.specs.declared.state.State.{State}
-use Rattle.session_undo.specs.Edits.{edited}
-use Rattle.session_undo.specs.States.{CanAccept, HasRoomForEdit, HasRoomForOne, IsState, lists_of, present_of}
-use Rattle.session_undo.proofs.EditsBack.{insert-remove}
-use Rattle.session_undo.proofs.Histories.{diagrams_put-le}
-use Rattle.session_undo.proofs.GainedNames.{count-append, count-cons, is_name}
+use Rattle.session_state.specs.declared.edit.Edit.{Edit}
+use Rattle.session_state.specs.declared.edit.Edit.TheVariants as edit
+use Rattle.session_state.specs.declared.state.State.{State}
+use Rattle.session_state.specs.Edits.{edited}
+use Rattle.session_state.specs.States.{CanAccept, HasRoomForEdit, HasRoomForOne, IsState, lists_of, present_of}
+use Rattle.session_state.proofs.EditsBack.{insert-remove}
+use Rattle.session_state.proofs.Histories.{diagrams_put-le}
+use Rattle.session_state.proofs.GainedNames.{count-append, count-cons, is_name}
 use Rattle.session_undo.proofs.WorkspaceRules.{all_left, all_removed, all_right}
 
 -- ---- the first place

@@ -1,15 +1,9 @@
 pub mod AddedGenerators
 pub mod DroppedDiagrams
-pub mod EditsBack
-pub mod GainedNames
-pub mod GrownSessions
-pub mod Histories
+pub mod EqualIds
 pub mod LowTerms
-pub mod StateGrowth
-pub mod StateInvariant
 pub mod StoredDiagrams
 pub mod TestedCommands
-pub mod ToldMeanings
 pub mod TreeLengths
 pub mod UndoneAndRedone
 pub mod WorkspaceRules

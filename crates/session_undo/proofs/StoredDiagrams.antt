@@ -24,12 +24,12 @@ use Rattle.workspace_lists.specs.declared.workspace.Generator.{Generator}
 use Rattle.workspace_lists.specs.declared.workspace.Named.{Named}
 use Rattle.workspace_lists.specs.Held.{AreHeld, Lists, diagram_over, trees_in}
 use Rattle.workspace_lists.specs.Names.{knows}
-use Rattle.session_undo.specs.declared.edit.Edit.{Edit}
-use Rattle.session_undo.specs.declared.edit.Edit.TheVariants as edit
-use Rattle.session_undo.specs.declared.state.State.{State}
-use Rattle.session_undo.specs.Edits.{AreKnown, IsGoodAt, edited}
-use Rattle.session_undo.specs.States.{CanAccept, HasRoomForEdit, HasRoomForOne, IsState, lists_of, present_of}
-use Rattle.session_undo.proofs.Histories.{diagrams_put-le}
+use Rattle.session_state.specs.declared.edit.Edit.{Edit}
+use Rattle.session_state.specs.declared.edit.Edit.TheVariants as edit
+use Rattle.session_state.specs.declared.state.State.{State}
+use Rattle.session_state.specs.Edits.{AreKnown, IsGoodAt, edited}
+use Rattle.session_state.specs.States.{CanAccept, HasRoomForEdit, HasRoomForOne, IsState, lists_of, present_of}
+use Rattle.session_state.proofs.Histories.{diagrams_put-le}
 use Rattle.session_undo.proofs.TreeLengths.{tree_length}
 use Rattle.session_undo.proofs.WorkspaceRules.{IsNew, with_diagram_rule}
 

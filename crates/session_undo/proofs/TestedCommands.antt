@@ -19,7 +19,7 @@ use Rattle.workspace_json.specs.Steps.{◌>>=◌, Changed, boundary_change, drop
 use Rattle.workspace_json.specs.Workspaces.{Workspace, diagram_named, without_diagram}
 use Rattle.session_undo.specs.declared.stop.Stop.{Stop}
 use Rattle.session_undo.specs.declared.stop.Stop.TheVariants as stop
-use Rattle.session_undo.specs.States.{Answers, ComesTo}
+use Rattle.session_undo.specs.Outcomes.{Answers, ComesTo}
 
 -- ---- where a command stops
 

@@ -5,10 +5,10 @@ use Rattle.hashcons.specs.Contents.{Contents}
 use Rattle.workspace_json.specs.Sessions.{IsSession, Session, back, forth, redone, undone}
 use Rattle.workspace_json.specs.Workspaces.{IsWorkspace, Workspace}
 use Rattle.workspace_lists.specs.declared.names.Names.{Names}
-use Rattle.session_undo.specs.declared.state.State.{State}
+use Rattle.session_state.specs.declared.state.State.{State}
 use Rattle.workspace_lists.specs.Held.{Lists, trees_in}
-use Rattle.session_undo.specs.Edits.{IsGoodAt}
-use Rattle.session_undo.specs.States.{IsState, session_of}
+use Rattle.session_state.specs.Edits.{IsGoodAt}
+use Rattle.session_state.specs.States.{IsState, session_of}
 
 all_rule : (c : Contents) (names : Names) (ls : List Lists) → All (IsGoodAt c names) ls → All IsWorkspace (map (trees_in c) ls)
 all_rule c names ls all =

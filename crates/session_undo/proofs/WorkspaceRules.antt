@@ -14,8 +14,8 @@ use Rattle.workspace_json.specs.declared.refusal.Refusal.{Refusal}
 use Rattle.workspace_json.specs.declared.refusal.Refusal.TheVariants as refusal
 use Rattle.workspace_json.specs.Steps.{◌>>=◌, new_name, refuse_unless}
 use Rattle.workspace_json.specs.Workspaces.{IsWorkspace, NamedDiagram, NamedGenerator, Workspace, diagram_named, first_there, generators_of, names_of, term, type_named, with_diagram, with_generator}
-use Rattle.session_undo.specs.Meanings.{free, stands_by, stands_for}
-use Rattle.session_undo.proofs.GainedNames.{count-append, count-cons, count-generator, free_is_unused, is_name}
+use Rattle.session_state.specs.Meanings.{free, stands_by, stands_for}
+use Rattle.session_state.proofs.GainedNames.{count-append, count-cons, count-generator, free_is_unused, is_name}
 use Rattle.std.proofs.lemmas.Slice.Eq.{bytes_eq-Decides}
 use Rattle.diagram_terms.specs.declared.limits.TheConstants.{GREATEST_DIM, MAX_GENERATORS}
 

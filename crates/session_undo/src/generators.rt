@@ -1,15 +1,20 @@
-ghost use Rattle.std.specs.Prelude.{◌≡◌, ◌≤◌, ◌<◌, ◌∷◌, ◌++◌, [], OnErr, OnOk, IfOk, length};
+ghost use Rattle.std.specs.Prelude.{◌≡◌, ◌≤◌, ◌∷◌, ◌++◌, [], ℕ, List, Ok, OnErr, OnOk, Option, IfOk, length};
+ghost use Rattle.hashcons.specs.Contents.{Grows};
+ghost use Rattle.session_state.specs.States.{HasRoomForOne, IsState, present_of, session_of};
+ghost use Rattle.workspace_json.specs.Sessions.{change};
+ghost use Rattle.workspace_json.specs.Steps.{both, generator_change, known_boundary, new_name};
 ghost use Rattle.hashcons.specs.Made.{Makes};
 ghost use Rattle.diagram_terms.specs.GeneratorTypes.{type_of_generator};
 ghost use Rattle.typecheck.specs.Outcomes.{add_outcome};
 ghost use Rattle.typecheck.specs.Signatures.{IsBoundaryOf, IsGoodOver, entry_of, generator_in, generators_of};
 ghost use Rattle.session_undo.specs.Added.{IsAdded};
+ghost use Rattle.session_undo.specs.Outcomes.{Answers, ComesTo};
 
-use crate::edit::Edit;
-use crate::state::State;
+use crate::lookups::{find, new_name};
 use crate::stop::Stop;
 use diagram_terms::{Label, Text};
 use hashcons::{AnyId, DiagramId, Store};
+use session_state::{Edit, State};
 use typecheck::{AddRefusal, Signature};
 use workspace_json::Reply;
 use workspace_lists::{Generator, Meaning};
@@ -48,92 +53,83 @@ fn add_generator(
     }
 }
 
-impl State {
-    ghost use Rattle.std.specs.Prelude.{◌≡◌, ℕ, List, Option, Ok, IfOk};
-    ghost use Rattle.hashcons.specs.Contents.{Grows};
-    ghost use Rattle.typecheck.specs.Signatures.{IsBoundaryOf, generator_in};
-    ghost use Rattle.workspace_json.specs.Sessions.{change};
-    ghost use Rattle.workspace_json.specs.Steps.{both, generator_change, known_boundary, new_name};
-    ghost use Rattle.session_undo.specs.States.{Answers, ComesTo, HasRoomForOne, IsState, present_of, session_of};
+/// Adds a generator with the terms of these names as its source and target, or without a
+/// boundary.
+pub(crate) fn generator_command(
+    state: &mut State,
+    name: &Text,
+    source: &Option<Text>,
+    target: &Option<Text>,
+) -> Result<Reply, Stop>
+    requires { IsState state.old }
+    ensures state { IsState state.new }
+    ensures grows { Grows state.old.store state.new.store }
+    ensures comes { ComesTo
+        (change (session_of state.old) (generator_change (present_of state.old) name.now source.now target.now))
+        (session_of state.old) (session_of state.new) result }
+{
+    new_name(state, name)?;
+    let boundary = find_boundary(state, source, target)?;
+    state.make_room(name.as_str())?;
+    let alloc = state.store.allocator();
+    let own = name.copy(alloc)?;
+    let said = name.copy(alloc)?;
+    add_new(state, own, said, &boundary)
+}
 
-    /// Adds a generator with the terms of these names as its source and target, or without a
-    /// boundary.
-    pub(crate) fn generator(
-        &mut self,
-        name: &Text,
-        source: &Option<Text>,
-        target: &Option<Text>,
-    ) -> Result<Reply, Stop>
-        requires { IsState self.old }
-        ensures state { IsState self.new }
-        ensures grows { Grows self.old.store self.new.store }
-        ensures comes { ComesTo
-            (change (session_of self.old) (generator_change (present_of self.old) name.now source.now target.now))
-            (session_of self.old) (session_of self.new) result }
-    {
-        self.new_name(name)?;
-        let boundary = self.find_boundary(source, target)?;
-        self.make_room(name.as_str())?;
-        let alloc = self.store.allocator();
-        let own = name.copy(alloc)?;
-        let said = name.copy(alloc)?;
-        self.add_new(own, said, &boundary)
-    }
-
-    /// Adds a generator with a new name, for which there is room.
-    fn add_new(
-        &mut self,
-        name: Text,
-        said: Text,
-        boundary: &Option<(DiagramId, DiagramId)>,
-    ) -> Result<Reply, Stop>
-        requires state { IsState self.old }
-        requires of_store { IsBoundaryOf self.old.store boundary.now }
-        requires new { new_name (present_of self.old) name ≡ Ok tt }
-        requires same { said ≡ name }
-        requires room { HasRoomForOne self.old name }
-        ensures state { IsState self.new }
-        ensures grows { Grows self.old.store self.new.store }
-        ensures comes { (source target : Option (List ℕ))
-            → known_boundary (present_of self.old) (both source target) ≡ Ok (generator_in self.old.store boundary.now)
-            → ComesTo (change (session_of self.old) (generator_change (present_of self.old) name source target))
-            (session_of self.old) (session_of self.new) result }
-    {
-        let added = add_generator(&mut self.store, &mut self.signature, *boundary)?;
-        let Label { dim, number } = added.label;
-        self.accept(Edit::PutGenerator {
-            generator: Generator {
-                name,
-                dim,
-                boundary: *boundary,
-            },
-            meaning: Meaning::Generator(added.type_of),
-        });
-        Ok(Reply::Generator {
+/// Adds a generator with a new name, for which there is room.
+fn add_new(
+    state: &mut State,
+    name: Text,
+    said: Text,
+    boundary: &Option<(DiagramId, DiagramId)>,
+) -> Result<Reply, Stop>
+    requires state { IsState state.old }
+    requires of_store { IsBoundaryOf state.old.store boundary.now }
+    requires new { new_name (present_of state.old) name ≡ Ok tt }
+    requires same { said ≡ name }
+    requires room { HasRoomForOne state.old name }
+    ensures state { IsState state.new }
+    ensures grows { Grows state.old.store state.new.store }
+    ensures comes { (source target : Option (List ℕ))
+        → known_boundary (present_of state.old) (both source target) ≡ Ok (generator_in state.old.store boundary.now)
+        → ComesTo (change (session_of state.old) (generator_change (present_of state.old) name source target))
+        (session_of state.old) (session_of state.new) result }
+{
+    let added = add_generator(&mut state.store, &mut state.signature, *boundary)?;
+    let Label { dim, number } = added.label;
+    state.accept(Edit::PutGenerator {
+        generator: Generator {
+            name,
             dim,
-            name: said,
-            number,
-        })
-    }
+            boundary: *boundary,
+        },
+        meaning: Meaning::Generator(added.type_of),
+    });
+    Ok(Reply::Generator {
+        dim,
+        name: said,
+        number,
+    })
+}
 
-    /// The boundary of a generator, where both of its ends are named.
-    fn find_boundary(
-        &self,
-        source: &Option<Text>,
-        target: &Option<Text>,
-    ) -> Result<Option<(DiagramId, DiagramId)>, Stop>
-        requires { IsState self.now }
-        ensures answer { Answers (generator_in self.now.store)
-            (known_boundary (present_of self.now) (both source.now target.now)) result }
-        ensures of_store { IfOk result (λ b. IsBoundaryOf self.now.store b) }
-    {
-        match (source, target) {
-            (Some(source), Some(target)) => {
-                let first = self.find(source)?;
-                let second = self.find(target)?;
-                Ok(Some((first, second)))
-            }
-            _ => Ok(None),
+/// The boundary of a generator, where both of its ends are named.
+fn find_boundary(
+    state: &State,
+    source: &Option<Text>,
+    target: &Option<Text>,
+) -> Result<Option<(DiagramId, DiagramId)>, Stop>
+    requires { IsState state.now }
+    ensures answer { Answers (generator_in state.now.store)
+        (known_boundary (present_of state.now) (both source.now target.now)) result }
+    ensures of_store { IfOk result (λ b. IsBoundaryOf state.now.store b) }
+{
+    match (source, target) {
+        (Some(source), Some(target)) => {
+            let first = find(state, source)?;
+            let second = find(state, target)?;
+            Ok(Some((first, second)))
         }
+        _ => Ok(None),
     }
 }

@@ -1,16 +1,16 @@
 //! Sessions: a workspace that commands change and read, with undo and redo.
 #![tactic(auto)]
 
-mod changes;
 mod commands;
-mod edit;
-mod entries;
+mod diagrams;
+mod dropping;
 mod generators;
 mod lookups;
+mod reading;
 mod session;
-mod signing;
-mod state;
 mod stop;
+mod storing;
+mod turning;
 
 pub use session::{NothingToRedo, NothingToUndo, Session};
 pub use workspace_lists::{Generator, Named, Stats, Workspace};

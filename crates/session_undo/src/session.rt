@@ -1,6 +1,8 @@
-use crate::state::State;
+use crate::commands::apply;
+use crate::lookups::are_one;
 use crate::stop::Stop;
 use hashcons::Store;
+use session_state::State;
 use std::alloc::{AllocError, Global};
 use std::marker::Model;
 use workspace_json::{Command, Refusal, Reply};
@@ -30,7 +32,7 @@ impl Model for Session {
 
     ghost coded = { coded_view };
 
-    ghost use Rattle.session_undo.specs.States.{IsState, session_of};
+    ghost use Rattle.session_state.specs.States.{IsState, session_of};
 
     ghost view = { λ s. record { store = s.state.store; session = session_of s.state } };
 
@@ -79,7 +81,7 @@ impl Session {
         ensures rule { IsSession self.new.session }
         ensures grows { Grows self.old.store self.new.store }
     {
-        match self.state.apply(command) {
+        match apply(&mut self.state, command) {
             Ok(reply) => Ok(reply),
             Err(Stop::Refused(refusal)) => Ok(Reply::Refused(refusal)),
             Err(Stop::NoMemory) => Err(AllocError),
@@ -124,7 +126,7 @@ impl Session {
     {
         let first = self.state.term(one)?;
         let second = self.state.term(two)?;
-        Some(self.state.are_one(first, second))
+        Some(are_one(&self.state.store, first, second))
     }
 
     /// What the workspace holds, in numbers.

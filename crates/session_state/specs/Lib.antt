@@ -1,0 +1,5 @@
+pub mod Meanings
+pub mod Edits
+pub mod States
+pub mod EditSteps
+pub mod Signing

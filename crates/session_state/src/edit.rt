@@ -1,0 +1,23 @@
+use workspace_lists::{Generator, Meaning, Named};
+
+/// A step from one workspace to a neighbouring one. A session keeps the steps back to earlier
+/// workspaces, and those forth to workspaces that were undone.
+#[derive(Debug, Drop)]
+pub enum Edit {
+    /// The last generator goes.
+    TakeGenerator,
+    /// A generator comes last, and its name gets a meaning.
+    PutGenerator {
+        generator: Generator,
+        meaning: Meaning,
+    },
+    /// The stored diagram at a place goes.
+    TakeDiagram {
+        place: usize,
+    },
+    /// A stored diagram comes to a place.
+    PutDiagram {
+        place: usize,
+        diagram: Named,
+    },
+}

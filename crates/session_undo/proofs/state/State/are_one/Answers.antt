@@ -1,6 +1,0 @@
-use Rattle.std.proofs.Common.{◌∙◌}
-use Rattle.session_undo.proofs.StateGrowth.{same_ids}
-use Rattle.session_undo.proofs.state.State.are_one.Goals as goal
-
-pub returns : goal.returns
-returns c = c.eq.ensures ∙ same_ids c.args.self.now.store c.allocator-allocator.ensures c.args.first c.args.second c.requires.first c.requires.second

@@ -1,0 +1,51 @@
+ghost use Rattle.std.specs.Prelude.{◌≡◌, ◌≤◌, Ok};
+ghost use Rattle.diagram_terms.specs.declared.limits.TheConstants.{GREATEST_DIM};
+ghost use Rattle.diagram_terms.specs.Dimension.{dimension_of};
+ghost use Rattle.hashcons.specs.Contents.{Grows, IsDiagramOf, diagram_at};
+ghost use Rattle.session_state.specs.States.{IsState, present_of, session_of};
+ghost use Rattle.workspace_json.specs.Sessions.{change};
+ghost use Rattle.workspace_json.specs.Steps.{new_name, stored};
+ghost use Rattle.session_undo.specs.Outcomes.{ComesTo};
+
+use crate::lookups::check;
+use crate::stop::Stop;
+use diagram_terms::Text;
+use hashcons::{AnyId, DiagramId};
+use session_state::{Edit, State};
+use workspace_json::{Reply, Word};
+use workspace_lists::Named;
+
+/// Stores a diagram under a new name.
+pub(crate) fn store_diagram(
+    state: &mut State,
+    word: Word,
+    name: &Text,
+    root: DiagramId,
+) -> Result<Reply, Stop>
+    requires state { IsState state.old }
+    requires of_store { IsDiagramOf state.old.store root }
+    requires new { new_name (present_of state.old) name.now ≡ Ok tt }
+    requires low { dimension_of (diagram_at state.old.store root) ≤ GREATEST_DIM }
+    ensures state { IsState state.new }
+    ensures grows { Grows state.old.store state.new.store }
+    ensures comes { ComesTo (change (session_of state.old)
+        (stored (present_of state.old) word name.now (diagram_at state.old.store root)))
+        (session_of state.old) (session_of state.new) result }
+{
+    check(state, root)?;
+    let alloc = state.store.allocator();
+    let reply = Reply::Stored {
+        dim: state.store.dim(AnyId::Diagram(root)) as u8,
+        length: state.store.length(root),
+        name: name.copy(alloc)?,
+        word,
+    };
+    let name = name.copy(alloc)?;
+    state.make_room(name.as_str())?;
+    let place = state.entries.workspace.diagrams.len();
+    state.accept(Edit::PutDiagram {
+        place,
+        diagram: Named { name, root },
+    });
+    Ok(reply)
+}
