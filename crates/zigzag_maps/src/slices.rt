@@ -7,7 +7,6 @@ ghost use Rattle.hashcons.specs.Contents.{IsArrowOf, arrow_at, diagram_at};
 ghost use Rattle.zigzag_maps.specs.Found.{IsValidDiagram, IsValidMap};
 ghost use Rattle.zigzag_maps.specs.MapTrees.{IsMapWith};
 
-use crate::composites::dual_from;
 use crate::map::Map;
 use hashcons::{ArrowId, ArrowNode, DiagramId, Store};
 
@@ -24,6 +23,25 @@ pub fn regs_len(store: &Store, a: ArrowId) -> usize
     }
 }
 
+/// How many heights of an arrow are below `k`: the dual of its heights at `k`.
+pub fn dual_of(store: &Store, a: ArrowId, k: usize) -> usize
+    requires of_store { IsArrowOf store.now a }
+    requires above { 0 < dimension_of (arrow_at store.now a) }
+    ensures { result ≡ dual (heights (arrow_at store.now a)) k }
+{
+    let mut low = 0;
+    let mut high = store.source_len(a);
+    while low < high {
+        let middle = low + (high - low) / 2;
+        if store.height(a, middle) < k {
+            low = middle + 1;
+        } else {
+            high = middle;
+        }
+    }
+    low
+}
+
 /// The regular slice of a map at the regular height `k` of its target.
 pub fn reg_slice(store: &Store, f: Map, k: usize) -> Map
     requires valid { IsValidMap store.now f }
@@ -34,7 +52,7 @@ pub fn reg_slice(store: &Store, f: Map, k: usize) -> Map
         (reg_at (diagram_at store.now f.target) k) (reg_at (arrow_at store.now f.arrow) k) result }
 {
     Map {
-        source: store.reg(f.source, dual_from(store, f.arrow, 0, k)),
+        source: store.reg(f.source, dual_of(store, f.arrow, k)),
         target: store.reg(f.target, k),
         arrow: store.arrow_reg(f.arrow, k),
     }

@@ -48,7 +48,7 @@ returns-clause-valid c =
     let hl = has.heights_len in
     let sl = arrow_sings_len _ _ _ v c.requires.above in
     map_with now _ _ _ _ (record {
-      source = c.reg.ensures.tree ∙ ap (reg_at (diagram_at now c.args.f.source)) c.dual_from.ensures;
+      source = c.reg.ensures.tree ∙ ap (reg_at (diagram_at now c.args.f.source)) c.dual_of.ensures;
       target = c.reg-2.ensures.tree;
       arrow = c.arrow_reg.ensures.tree;
     }) (has.regs c.args.k c.requires.within) c.reg.ensures.of_store c.reg-2.ensures.of_store c.arrow_reg.ensures.of_store
