@@ -5,6 +5,8 @@ pub mod EdgeSteps
 pub mod FaultSteps
 pub mod IdentityLemmas
 pub mod KeepLemmas
+pub mod SliceMaps
+pub mod ValidArrows
 pub mod ValidityLemmas
 pub mod ValiditySteps
 pub mod Verdicts

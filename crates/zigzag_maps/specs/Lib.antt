@@ -3,3 +3,4 @@ pub mod Keeps
 pub mod Visits
 pub mod DiagramTests
 pub mod Walks
+pub mod MapTrees

@@ -193,7 +193,7 @@ fn singular_composites(
 }
 
 /// The dual of an arrow's heights at `k`, where at least `from` of them are below `k`.
-pub(crate) fn dual_from(store: &Store, a: ArrowId, from: usize, k: usize) -> usize
+pub fn dual_from(store: &Store, a: ArrowId, from: usize, k: usize) -> usize
     requires of_store { IsArrowOf store.now a }
     requires above { 0 < dimension_of (arrow_at store.now a) }
     requires within { from ≤ dual (heights (arrow_at store.now a)) k }

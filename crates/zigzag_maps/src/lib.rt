@@ -9,15 +9,17 @@ mod kept;
 mod map;
 mod order;
 mod outcome;
+mod slices;
 mod validity;
 mod walk;
 
-pub use composites::compose;
+pub use composites::{compose, dual_from};
 pub use faults::{found_in, squares};
 pub use identities::identity;
 pub use kept::Kept;
 pub use map::Map;
 pub use order::next_step;
 pub use outcome::SquareTest;
+pub use slices::{bwd_map, dual_of, fwd_map, reg_slice, regs_len, sing_slice};
 pub use validity::{valid, valid_keeping};
 pub use walk::{Held, Reading, Walk, first_in};
