@@ -1,13 +1,15 @@
 -- What one more tree does to a store.
-use Rattle.std.proofs.Common.{◌≡◌, ◌≢◌, ℕ, ◌<◌, ◌≤◌, List, [], ◌∷◌, ◌++◌, length, get_or, refl, sym, subst, ◌∙◌, ap, arith, ◌⊎◌, inl, inr, nat_eq, Some}
-use Rattle.std.specs.Map.{lookup}
+use Rattle.std.proofs.Common.{◌≡◌, ◌≢◌, ℕ, suc, ◌<◌, ◌≤◌, List, [], ◌∷◌, ◌++◌, length, map, get_or, refl, sym, subst, ◌∙◌, ap, arith, ◌⊎◌, inl, inr}
 use Rattle.std.proofs.lemmas.List.{length_push}
 use Rattle.diagram_terms.specs.Tree.{Tree, nil}
 use Rattle.diagram_terms.specs.Completion.{IsAmongFirst}
 use Rattle.diagram_terms.specs.Dimension.{dimension_of, IsDiagramTree, IsArrowTree}
-use Rattle.hashcons.specs.Contents.{Contents, same_pair, IsDiagramOf, IsArrowOf, diagram_at, arrow_at, IsIdentityOf, IsCompositeOf, Grows, IsStore, HasSlicesAmong, HasLegsAmong, HasArrowsAmong, with_arrow, with_diagram}
+use Rattle.diagram_terms.specs.Nodes.{picked}
 use Rattle.diagram_terms.specs.Operations.{identity_tree, composite_tree}
-use Rattle.hashcons.proofs.TableLemmas.{at-push, at-last, push_cases, IsOnce-push}
+use Rattle.diagram_terms.specs.ValidTrees.{IsValidTree, IsArrowBetween}
+use Rattle.hashcons.specs.Contents.{Contents, Notes, Key, Normal, KeepsNotes, IsDiagramOf, IsArrowOf, diagram_at, arrow_at, IsIdentityOf, IsCompositeOf, IsValidDiagram, IsValidTriple, IsLegOf, leg_of, IsNormalOf, AreNotes, Grows, IsStore, HasSlicesAmong, HasLegsAmong, HasArrowsAmong, with_arrow, with_diagram}
+use Rattle.hashcons.specs.NormalTrees.{TreeLeg, IsNormalTree}
+use Rattle.hashcons.proofs.TableLemmas.{at-push, at-last, push_cases, IsOnce-push, picked-agree}
 
 -- a fact of each tree of a list by its place, and of one more
 more : (P : ℕ → Tree → Type 0) (ts : List Tree) (t : Tree) → ((i : ℕ) → i < length ts → P i (get_or ts i nil))
@@ -79,6 +81,64 @@ composite-stays old new k g f h is = record {
       ∙ (λ i. composite_tree (sym (k.arrow_trees g is.outer) i) (sym (k.arrow_trees f is.inner) i));
 }
 
+pub valid-stays : (old new : Contents) → KeepsTrees old new → (d : ℕ) → IsValidDiagram old d → IsValidDiagram new d
+valid-stays old new k d h = record {
+  of_store = k.diagrams d h.of_store;
+  valid = subst IsValidTree (sym (k.diagram_trees d h.of_store)) h.valid;
+}
+
+pub triple-stays : (old new : Contents) → KeepsTrees old new → (s t a : ℕ) → IsValidTriple old s t a → IsValidTriple new s t a
+triple-stays old new k s t a h =
+    let p = sym (k.diagram_trees s h.source.of_store) in
+    let q = sym (k.diagram_trees t h.target.of_store) in
+    let r = sym (k.arrow_trees a h.arrow) in
+    let same : (diagram_at old s, diagram_at old t, arrow_at old a) ≡ (diagram_at new s, diagram_at new t, arrow_at new a) = λ i. (p i, q i, r i) in
+    record {
+      source = valid-stays old new k s h.source;
+      target = valid-stays old new k t h.target;
+      arrow = k.arrows a h.arrow;
+      between = subst (λ (x : Tree × Tree × Tree). IsArrowBetween x.0 x.1 x.2) same h.between;
+    }
+
+legs-stay : (old new : Contents) → KeepsTrees old new → (legs : List (ℕ × ℕ)) → ((i : ℕ) → i < length legs → IsLegOf old (get_or legs i (0, 0)))
+    → map (leg_of old) legs ≡ map (leg_of new) legs
+legs-stay old new k [] h = refl
+legs-stay old new k (g ∷ gs) h =
+    let first = h 0 (omega arith) in
+    let p = sym (k.diagram_trees g.0 first.source) in
+    let q = sym (k.arrow_trees g.1 first.arrow) in
+    let rest = legs-stay old new k gs (λ i l. h (suc i) (omega arith)) in
+    λ i. record { source = p i; arrow = q i } ∷ rest i
+
+pub normal-stays : (old new : Contents) → KeepsTrees old new → (key : Key) (m : Normal) → IsNormalOf old key m → IsNormalOf new key m
+normal-stays old new k key m h =
+    let t = sym (k.diagram_trees key.target h.target) in
+    let s = sym (k.diagram_trees m.source h.source) in
+    let a = sym (k.arrow_trees m.arrow h.arrow) in
+    let ls = legs-stay old new k key.legs h.legs in
+    let fs : picked old.arrows m.factors ≡ picked new.arrows m.factors =
+    picked-agree (length old.arrows) old.arrows new.arrows m.factors h.factors (λ j l. sym (k.arrow_trees j l)) in
+    let same : ((diagram_at old key.target, map (leg_of old) key.legs), (diagram_at old m.source, arrow_at old m.arrow, picked old.arrows m.factors))
+    ≡ ((diagram_at new key.target, map (leg_of new) key.legs), (diagram_at new m.source, arrow_at new m.arrow, picked new.arrows m.factors)) =
+    λ i. ((t i, ls i), (s i, a i, fs i)) in
+    record {
+      target = k.diagrams key.target h.target;
+      legs = λ i l. record { source = k.diagrams _ (h.legs i l).source; arrow = k.arrows _ (h.legs i l).arrow };
+      source = k.diagrams m.source h.source;
+      arrow = k.arrows m.arrow h.arrow;
+      factors = record { below = λ i l. k.arrows _ (h.factors.below i l) };
+      normal = subst (λ (x : (Tree × List TreeLeg) × (Tree × Tree × List Tree)). IsNormalTree x.0.0 x.0.1 x.1.0 x.1.1 x.1.2) same h.normal;
+    }
+
+pub notes-stay : (old new : Contents) → KeepsTrees old new → (ns : Notes) → AreNotes old ns → AreNotes new ns
+notes-stay old new k ns h = record {
+  identities = λ d a e. identity-stays old new k d a (h.identities d a e);
+  composites = λ p a e. composite-stays old new k p.0 p.1 a (h.composites p a e);
+  valid = λ d e. valid-stays old new k d (h.valid d e);
+  valid_maps = λ p e. triple-stays old new k p.0 p.1 p.2 (h.valid_maps p e);
+  normals = λ key m e. normal-stays old new k key m (h.normals key m e);
+}
+
 keeps-push_arrow : (c : Contents) (t : Tree) → KeepsTrees c (with_arrow c t)
 keeps-push_arrow c t = record {
   diagrams = λ d h. h;
@@ -110,8 +170,7 @@ IsStore-push_arrow c t store shape among low new = record {
       (arrows-push (length c.arrows) c.arrows t t (omega arith) among);
   diagram_dims = store.diagram_dims;
   arrow_dims = more (λ i t. dimension_of t ≤ i) c.arrows t store.arrow_dims low;
-  identities = λ d a e. identity-stays c (with_arrow c t) (keeps-push_arrow c t) d a (store.identities d a e);
-  composites = λ g f h e. composite-stays c (with_arrow c t) (keeps-push_arrow c t) g f h (store.composites g f h e);
+  notes = notes-stay c (with_arrow c t) (keeps-push_arrow c t) c.notes store.notes;
 }
 
 pub IsStore-push_diagram : (c : Contents) (t : Tree) → IsStore c → IsDiagramTree t
@@ -130,8 +189,19 @@ IsStore-push_diagram c t store shape among held low new = record {
   arrow_slices = store.arrow_slices;
   diagram_dims = more (λ i t. dimension_of t ≤ i) c.diagrams t store.diagram_dims low;
   arrow_dims = store.arrow_dims;
-  identities = λ d a e. identity-stays c (with_diagram c t) (keeps-push_diagram c t) d a (store.identities d a e);
-  composites = λ g f h e. composite-stays c (with_diagram c t) (keeps-push_diagram c t) g f h (store.composites g f h e);
+  notes = notes-stay c (with_diagram c t) (keeps-push_diagram c t) c.notes store.notes;
+}
+
+KeepsNotes-refl : (ns : Notes) → KeepsNotes ns ns
+KeepsNotes-refl ns = record { identities = λ d a e. e; composites = λ k a e. e; valid = λ d e. e; valid_maps = λ k e. e; normals = λ k m e. e }
+
+pub KeepsNotes-trans : (a b c : Notes) → KeepsNotes a b → KeepsNotes b c → KeepsNotes a c
+KeepsNotes-trans a b c g h = record {
+  identities = λ d x e. h.identities d x (g.identities d x e);
+  composites = λ k x e. h.composites k x (g.composites k x e);
+  valid = λ d e. h.valid d (g.valid d e);
+  valid_maps = λ k e. h.valid_maps k (g.valid_maps k e);
+  normals = λ k m e. h.normals k m (g.normals k m e);
 }
 
 pub grows-from : (old new : Contents) → (IsStore old → IsStore new) → KeepsTrees old new → old.notes ≡ new.notes → Grows old new
@@ -141,8 +211,7 @@ grows-from old new s k e = record {
   arrows = k.arrows;
   diagram_trees = k.diagram_trees;
   arrow_trees = k.arrow_trees;
-  identities = λ d a n. subst (λ ns. lookup (nat_eq d) ns.identities ≡ Some a) e n;
-  composites = λ g f h n. subst (λ ns. lookup (same_pair (g, f)) ns.composites ≡ Some h) e n;
+  notes = subst (KeepsNotes old.notes) e (KeepsNotes-refl old.notes);
 }
 
 pub Grows-refl : (c : Contents) → Grows c c

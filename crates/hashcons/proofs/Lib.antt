@@ -1,6 +1,8 @@
 pub mod TableLemmas
 pub mod NodeLemmas
 pub mod NoteLemmas
+pub mod MoreNotes
+pub mod NoteTableLemmas
 pub mod ContentsLemmas
 pub mod ChildLemmas
 pub mod PutLemmas

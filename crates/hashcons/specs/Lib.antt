@@ -5,4 +5,7 @@ pub mod Ids
 pub mod Listing
 pub mod Made
 pub mod Nodes
+pub mod NormalTrees
+pub mod NoteTables
+pub mod Notes
 pub mod Tables

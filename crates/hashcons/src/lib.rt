@@ -8,6 +8,8 @@ mod id;
 mod laws;
 mod list;
 mod node;
+mod notes;
+mod noting;
 mod read;
 mod store;
 
@@ -15,5 +17,6 @@ pub use found::FoundIds;
 pub use id::{AnyId, ArrowId, DiagramId};
 pub use laws::lists_each_once;
 pub use node::{ArrowNode, DiagramNode};
+pub use notes::{KnownNormal, NormalKey};
 pub use read::same;
 pub use store::Store;

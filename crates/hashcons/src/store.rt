@@ -2,9 +2,9 @@ ghost use Rattle.std.specs.Prelude.{◌≡◌};
 
 use crate::id::{ArrowId, DiagramId};
 use crate::node::{ArrowNode, DiagramNode};
+use crate::notes::NoteTables;
 use indexmap::IndexSet;
 use std::alloc::{AllocError, Global};
-use std::collections::HashMap;
 use std::marker::Model;
 
 /// A store of diagrams and arrows, in which each tree stands once and children before parents.
@@ -15,8 +15,7 @@ use std::marker::Model;
 pub struct Store {
     diagrams: IndexSet<DiagramNode>,
     arrows: IndexSet<ArrowNode>,
-    identities: HashMap<DiagramId, ArrowId>,
-    composites: HashMap<(ArrowId, ArrowId), ArrowId>,
+    pub(crate) notes: NoteTables,
 }
 
 impl Model for Store {
@@ -26,17 +25,18 @@ impl Model for Store {
 
     ghost coded = { coded_contents };
 
+    ghost use Rattle.hashcons.specs.NoteTables.{notes_of};
     ghost use Rattle.hashcons.specs.Tables.{contents_of, AreTables};
 
-    ghost view = { λ s. contents_of s.arrows.keys s.diagrams.keys (record { identities = s.identities.entries; composites = s.composites.entries }) };
+    ghost view = { λ s. contents_of s.arrows.keys s.diagrams.keys (notes_of s.notes) };
 
-    ghost invariant = { λ s. AreTables s.arrows.keys s.diagrams.keys (record { identities = s.identities.entries; composites = s.composites.entries }) };
+    ghost invariant = { λ s. AreTables s.arrows.keys s.diagrams.keys (notes_of s.notes) };
 }
 
 impl Store {
-    ghost use Rattle.std.specs.Prelude.{◌≡◌, IfSome, OnOk, OnErr, Some, nat_eq};
+    ghost use Rattle.std.specs.Prelude.{◌≡◌, OnErr};
     ghost use Rattle.diagram_terms.specs.Dimension.{IsDiagramTree, IsArrowTree};
-    ghost use Rattle.hashcons.specs.Contents.{empty, IsStore, IsDiagramOf, IsArrowOf, IsIdentityOf, IsCompositeOf, NotesMore, Grows, AddsDiagram, AddsArrow, same_pair, noted_identity, noted_composite, diagram_at, arrow_at};
+    ghost use Rattle.hashcons.specs.Contents.{empty, IsStore, IsDiagramOf, IsArrowOf, AddsDiagram, AddsArrow, diagram_at, arrow_at};
     ghost use Rattle.hashcons.specs.Made.{MakesDiagram, MakesArrow};
     ghost use Rattle.hashcons.specs.Nodes.{HasChildrenOf, HasArrowsOf, described_diagram, described_arrow};
 
@@ -47,8 +47,7 @@ impl Store {
         Store {
             diagrams: IndexSet::new(alloc),
             arrows: IndexSet::new(alloc),
-            identities: HashMap::new(alloc),
-            composites: HashMap::new(alloc),
+            notes: NoteTables::new(alloc),
         }
     }
 
@@ -101,52 +100,5 @@ impl Store {
         ensures store { IsStore self.now }
     {
         &self.arrows[id.index]
-    }
-
-    /// The identity arrow of `d`, where it is noted.
-    pub fn known_identity(&self, d: DiagramId) -> Option<ArrowId>
-        ensures value { result ≡ noted_identity self.now d }
-        ensures right { IfSome result (IsIdentityOf self.now d) }
-        ensures store { IsStore self.now }
-    {
-        self.identities.get(&d).copied()
-    }
-
-    /// Notes the identity arrow of a diagram. Where it is noted, nothing changes.
-    pub fn note_identity(&mut self, d: DiagramId, identity: ArrowId) -> Result<(), AllocError>
-        requires { IsIdentityOf self.old d identity }
-        ensures notes { OnOk result (NotesMore nat_eq self.old.notes.identities self.new.notes.identities d identity) }
-        ensures noted { OnOk result (noted_identity self.new d ≡ Some identity) }
-        ensures grows { Grows self.old self.new }
-        ensures err { OnErr result (self.new ≡ self.old) }
-    {
-        self.identities.insert(d, identity)?;
-        Ok(())
-    }
-
-    /// The composite of `g` after `f`, where it is noted.
-    pub fn known_composite(&self, g: ArrowId, f: ArrowId) -> Option<ArrowId>
-        ensures value { result ≡ noted_composite self.now g f }
-        ensures right { IfSome result (IsCompositeOf self.now g f) }
-        ensures store { IsStore self.now }
-    {
-        self.composites.get(&(g, f)).copied()
-    }
-
-    /// Notes the composite of two arrows. Where it is noted, nothing changes.
-    pub fn note_composite(
-        &mut self,
-        g: ArrowId,
-        f: ArrowId,
-        made: ArrowId,
-    ) -> Result<(), AllocError>
-        requires { IsCompositeOf self.old g f made }
-        ensures notes { OnOk result (NotesMore same_pair self.old.notes.composites self.new.notes.composites (g, f) made) }
-        ensures noted { OnOk result (noted_composite self.new g f ≡ Some made) }
-        ensures grows { Grows self.old self.new }
-        ensures err { OnErr result (self.new ≡ self.old) }
-    {
-        self.composites.insert((g, f), made)?;
-        Ok(())
     }
 }
