@@ -177,9 +177,9 @@ unfolding comp
 composite_within zero g f a b = (b.0, a.1)
 composite_within (suc d) g f a b = (
   all_tab d (length g.regs) (λ k. comp d (arrow_reg d g k) (arrow_reg d f (dual g.heights k)))
-  (λ k. composite_within d (arrow_reg d g k) (arrow_reg d f (dual g.heights k)) (at_any d g.regs k a.0) (at_any d f.regs (dual g.heights k) b.0)),
+      (λ k. composite_within d (arrow_reg d g k) (arrow_reg d f (dual g.heights k)) (at_any d g.regs k a.0) (at_any d f.regs (dual g.heights k) b.0)),
   all_tab d (length f.sings) (λ i. comp d (arrow_sing d g (height d f i)) (arrow_sing d f i))
-  (λ i. composite_within d (arrow_sing d g (height d f i)) (arrow_sing d f i) (at_any d g.sings (height d f i) a.1) (at_any d f.sings i b.1)),
+      (λ i. composite_within d (arrow_sing d g (height d f i)) (arrow_sing d f i) (at_any d g.sings (height d f i) a.1) (at_any d f.sings i b.1)),
 )
 
 -- ---- trees of arrows
@@ -200,9 +200,9 @@ its_arrow (suc d) t h w =
     let rs = All-left HasLabelsWithinLimits (regs t) (sings t) parts in
     let ss = All-right HasLabelsWithinLimits (regs t) (sings t) parts in (
       All-map (ArrowWithin d) (arr d) (regs t) (All-from_get_or (λ u. ArrowWithin d (arr d u)) (regs t) nil (λ k l.
-      its_arrow d (get_or (regs t) k nil) (h.regs_are k l) (All-get_or HasLabelsWithinLimits (regs t) k nil l rs))),
+          its_arrow d (get_or (regs t) k nil) (h.regs_are k l) (All-get_or HasLabelsWithinLimits (regs t) k nil l rs))),
       All-map (ArrowWithin d) (arr d) (sings t) (All-from_get_or (λ u. ArrowWithin d (arr d u)) (sings t) nil (λ k l.
-      its_arrow d (get_or (sings t) k nil) (h.sings_are k l) (All-get_or HasLabelsWithinLimits (sings t) k nil l ss))),
+          its_arrow d (get_or (sings t) k nil) (h.sings_are k l) (All-get_or HasLabelsWithinLimits (sings t) k nil l ss))),
     )
 
 -- the other way round

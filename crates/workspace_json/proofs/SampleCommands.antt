@@ -2,14 +2,16 @@
 use Rattle.std.proofs.Common.{◌≡◌, [], ◌∷◌, codes, Some, None, Ok, Err, refl}
 use Rattle.std.specs.Str.{is_utf8, chars}
 use Rattle.serde_json.proofs.OnLiterals.{serde_json_on_literals}
+use Rattle.diagram_terms.specs.declared.node.Node.TheVariants as node
 use Rattle.diagram_terms.specs.declared.place.Height.TheVariants as height
 use Rattle.diagram_terms.specs.declared.place.Side.TheVariants as side
 use Rattle.node_json.specs.declared.fault.Field.TheVariants as field
 use Rattle.node_json.specs.declared.fault.FormFault.TheVariants as fault
+use Rattle.node_json.specs.NodeForms.{node_at}
 use Rattle.node_json.specs.Reading.{field_fault}
 use Rattle.workspace_json.specs.declared.command.Command.TheVariants as command
 use Rattle.workspace_json.specs.Paths.{number_in, height_in}
-use Rattle.workspace_json.specs.Commands.{generator_row, identity_row, boundary_row, slice_row, equal_row, drop_row, row_of, command_of, exact_command}
+use Rattle.workspace_json.specs.Commands.{bring_row, generator_row, identity_row, boundary_row, slice_row, compose_row, equal_row, drop_row, row_of, command_of, exact_command}
 
 -- ---- each row
 
@@ -69,6 +71,16 @@ redo = refl
 as_json : exact_command (codes " {\"name\" : \"\", \"do\" : \"drop\"}") ≡ Ok (command.Drop [])
 unfolding is_utf8 chars serde_json_on_literals number_in height_in generator_row identity_row boundary_row slice_row equal_row drop_row row_of command_of
 as_json = refl
+
+brought : exact_command (codes "{\"do\":\"bring\",\"name\":\"m\",\"nodes\":[{\"label\":[0,0]},{\"label\":[1,1]},{\"labels\":[[0,0],[1,1]]}],\"source\":0,\"target\":1,\"arrow\":2}")
+    ≡ Ok (command.Bring (codes "m") (node.Label (record { number = 0; dim = 0 }) ∷ node.Label (record { number = 1; dim = 1 })
+    ∷ node.Labels (record { number = 0; dim = 0 }) (record { number = 1; dim = 1 }) ∷ []) 0 1 2)
+unfolding is_utf8 chars serde_json_on_literals number_in height_in node_at bring_row compose_row row_of command_of
+brought = refl
+
+composed : exact_command (codes "{\"do\":\"compose\",\"name\":\"gf\",\"then\":\"g\",\"first\":\"f\"}") ≡ Ok (command.Compose (codes "gf") (codes "f") (codes "g"))
+unfolding is_utf8 chars serde_json_on_literals number_in height_in node_at bring_row compose_row row_of command_of
+composed = refl
 
 -- ---- each fault
 
@@ -146,3 +158,16 @@ one_no_string = refl
 two_no_string : exact_command (codes "{\"do\":\"equal\",\"one\":\"x\",\"two\":2}") ≡ Err (field_fault field.Two)
 unfolding is_utf8 chars serde_json_on_literals number_in height_in generator_row identity_row boundary_row slice_row equal_row drop_row row_of command_of
 two_no_string = refl
+
+-- the nodes come before the places
+node_no_form : exact_command (codes "{\"do\":\"bring\",\"name\":\"m\",\"nodes\":[{\"label\":[0]}],\"source\":9,\"target\":9,\"arrow\":9}") ≡ Err (fault.Shape 0)
+unfolding is_utf8 chars serde_json_on_literals number_in height_in node_at bring_row compose_row row_of command_of
+node_no_form = refl
+
+arrow_no_arrow : exact_command (codes "{\"do\":\"bring\",\"name\":\"m\",\"nodes\":[{\"label\":[0,0]}],\"source\":0,\"target\":0,\"arrow\":0}") ≡ Err (field_fault field.Arrow)
+unfolding is_utf8 chars serde_json_on_literals number_in height_in node_at bring_row compose_row row_of command_of
+arrow_no_arrow = refl
+
+then_no_string : exact_command (codes "{\"do\":\"compose\",\"name\":\"c\",\"first\":\"f\",\"then\":0}") ≡ Err (field_fault field.Then)
+unfolding is_utf8 chars serde_json_on_literals number_in height_in node_at bring_row compose_row row_of command_of
+then_no_string = refl

@@ -1,5 +1,5 @@
 -- The form of a command.
-use Rattle.std.specs.Prelude.{ℕ, List, Option, Some, None}
+use Rattle.std.specs.Prelude.{ℕ, List}
 use Rattle.diagram_terms.specs.declared.node.Node.{Node}
 use Rattle.diagram_terms.specs.Nodes.{AreNodes}
 use Rattle.node_json.specs.Documents.{IsArrowPlace, IsDiagramPlace}
@@ -13,17 +13,10 @@ pub record IsBrought (nodes : List Node) (source target arrow : ℕ) : Type 0 wh
   pub target_is : IsDiagramPlace nodes target
   pub arrow_is : IsArrowPlace nodes arrow
 
--- both ends of a boundary are named, or none is
-abbrev pub AreBoth : Option (List ℕ) → Option (List ℕ) → Type 0
-AreBoth None None = Unit {0}
-AreBoth (Some s) (Some t) = Unit {0}
-AreBoth None (Some t) = ⊥
-AreBoth (Some s) None = ⊥
-
--- what a command has beside the types of its fields
+-- What a command has beside the types of its fields: the nodes of a map, and places of the right kind among them.
 abbrev pub HasForm : Command → Type 0
 HasForm (command.Bring name nodes source target arrow) = IsBrought nodes source target arrow
-HasForm (command.Generator name source target) = AreBoth source target
+HasForm (command.Generator name source target) = Unit {0}
 HasForm (command.Identity name of) = Unit {0}
 HasForm (command.Boundary name of end) = Unit {0}
 HasForm (command.Slice of path) = Unit {0}

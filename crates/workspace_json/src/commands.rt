@@ -90,7 +90,12 @@ fn diagram_in(field: Field, nodes: &Nodes, value: &Value) -> Result<usize, FormF
     ensures { GivesExactly (λ place. place) result
         (diagram_in field nodes.now.nodes (view value.now)) }
 {
-    diagram_place(field_fault(field), nodes.sorts.as_slice(), field_word(field), value)
+    diagram_place(
+        field_fault(field),
+        nodes.sorts.as_slice(),
+        field_word(field),
+        value,
+    )
 }
 
 /// The place at a field, where an arrow of these nodes stands.
@@ -99,7 +104,12 @@ fn arrow_in(field: Field, nodes: &Nodes, value: &Value) -> Result<usize, FormFau
     ensures { GivesExactly (λ place. place) result
         (arrow_in field nodes.now.nodes (view value.now)) }
 {
-    arrow_place(field_fault(field), nodes.sorts.as_slice(), field_word(field), value)
+    arrow_place(
+        field_fault(field),
+        nodes.sorts.as_slice(),
+        field_word(field),
+        value,
+    )
 }
 
 #[tactic(auto, unfolding(crate::specs::Commands::bring_row))]

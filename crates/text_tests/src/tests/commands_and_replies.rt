@@ -339,13 +339,7 @@ fn brings_maps(rt: HostRuntime) -> Result<(), Fail> {
         (ARROW, 0, 3, 2, field(Field::Target)),
         (ARROW, 0, 1, 1, field(Field::Arrow)),
         ("{\"label\":[7]}", 0, 1, 2, Some(FormFault::Shape(0))),
-        (
-            "{\"label\":[60000,0]}",
-            0,
-            1,
-            2,
-            Some(FormFault::Label(0)),
-        ),
+        ("{\"label\":[60000,0]}", 0, 1, 2, Some(FormFault::Label(0))),
     ] {
         let line = bring(alloc, nodes, source, target, arrow)?;
         let fault = read_command(alloc, line.as_bytes()).err();
