@@ -1,5 +1,5 @@
 -- Edits and those that take them back.
-use Rattle.std.proofs.Common.{◌≡◌, ℕ, zero, suc, ◌+◌, ◌-◌, ◌<◌, ◌≤◌, List, [], ◌∷◌, ◌++◌, length, take, get_or, All, refl, ap, subst, ◌∙◌, arith}
+use Rattle.std.proofs.Common.{◌≡◌, ℕ, zero, suc, ◌-◌, ◌<◌, ◌≤◌, List, [], ◌∷◌, ◌++◌, length, take, get_or, All, refl, ap, subst, arith}
 use Rattle.std.proofs.lemmas.List.{get_or_push, length_push, take_at}
 use Rattle.std.proofs.lemmas.List.Edits.{get_or-insert_at, length-insert}
 use Rattle.std.proofs.lemmas.List.Elements.{All-get_or}

@@ -1,14 +1,13 @@
 -- What a name stands for in a workspace that has one generator or one diagram more than another.
-use Rattle.std.proofs.Common.{◌≡◌, ℕ, suc, ◌+◌, ◌≤◌, List, [], ◌∷◌, ◌++◌, length, take, drop, map, cond, Bool, true, false, Option, Some, None, refl, sym, ap, subst, ◌∙◌, arith, add-zero}
-use Rattle.std.specs.List.{insert, sum_by, count_by}
+use Rattle.std.proofs.Common.{◌≡◌, ℕ, suc, ◌+◌, ◌≤◌, List, [], ◌∷◌, ◌++◌, length, take, drop, map, cond, Bool, true, false, Option, Some, None, refl, sym, ap, ◌∙◌, arith, add-zero}
+use Rattle.std.specs.List.{insert, count_by}
 use Rattle.std.specs.Prelude.{bytes_eq}
 use Rattle.std.proofs.lemmas.List.{take-append-drop, map-append}
 use Rattle.std.proofs.lemmas.List.Sums.{sum_by-append}
 use Rattle.std.proofs.lemmas.Slice.Eq.{bytes_eq-Decides}
 use Rattle.diagram_terms.specs.GeneratorTypes.{type_of_generator}
 use Rattle.diagram_terms.specs.Tree.{Tree}
-use Rattle.diagram_terms.specs.Typing.{Generator}
-use Rattle.workspace_json.specs.Workspaces.{NamedDiagram, NamedGenerator, Workspace, diagram_named, first_there, names_of, type_named, with_generator}
+use Rattle.workspace_json.specs.Workspaces.{NamedDiagram, NamedGenerator, Workspace, diagram_named, first_there, names_of, type_named}
 use Rattle.session_state.specs.Meanings.{Stands, diagram, free, generator, stands_by, stands_for}
 
 -- a workspace has one name more than another, and this name stands there for something

@@ -1,23 +1,22 @@
 -- What a session keeps, over a store that grew.
-use Rattle.std.proofs.Common.{◌≡◌, ℕ, List, [], ◌∷◌, ◌++◌, length, map, reverse, All, refl, sym, ap, subst, ◌∙◌}
-use Rattle.std.proofs.lemmas.List.Elements.{All-cons, All-head, All-nil, All-tail, All-weaker}
+use Rattle.std.proofs.Common.{◌≡◌, List, [], ◌∷◌, ◌++◌, length, map, reverse, All, refl, sym, ap, subst, ◌∙◌}
+use Rattle.std.proofs.lemmas.List.Elements.{All-head, All-tail, All-weaker}
 use Rattle.diagram_terms.specs.GeneratorTypes.{type_of_generator}
-use Rattle.hashcons.specs.Contents.{Contents, Grows, IsDiagramOf, diagram_at}
+use Rattle.hashcons.specs.Contents.{Contents, Grows}
 use Rattle.typecheck.proofs.GoodSignatures.{generator-kept}
 use Rattle.workspace_json.specs.Sessions.{Session}
-use Rattle.workspace_json.specs.Workspaces.{IsWorkspace, NamedDiagram, NamedGenerator, Workspace}
+use Rattle.workspace_json.specs.Workspaces.{IsWorkspace, Workspace}
 use Rattle.workspace_lists.specs.declared.names.Meaning.{Meaning}
 use Rattle.workspace_lists.specs.declared.names.Meaning.TheVariants as meaning
 use Rattle.workspace_lists.specs.declared.names.Names.{Names}
 use Rattle.workspace_lists.specs.declared.workspace.Generator.{Generator}
-use Rattle.workspace_lists.specs.declared.workspace.Named.{Named}
-use Rattle.workspace_lists.specs.Held.{AreHeld, IsGeneratorOf, Lists, diagrams_over, generators_over, trees_in}
+use Rattle.workspace_lists.specs.Held.{IsGeneratorOf, Lists, trees_in}
 use Rattle.workspace_lists.specs.Names.{meaning_in}
 use Rattle.workspace_lists.proofs.ForCallers.{held-kept, trees-kept}
 use Rattle.session_state.specs.declared.edit.Edit.{Edit}
 use Rattle.session_state.specs.declared.edit.Edit.TheVariants as edit
-use Rattle.session_state.specs.Edits.{AllFit, Fits, HasType, IsGoodAt, IsTypeOf, edited, turns}
-use Rattle.session_state.specs.Meanings.{IsMeaningOf, Stands, Tell, diagram, generator, meaning_over}
+use Rattle.session_state.specs.Edits.{AllFit, HasType, IsGoodAt, edited, turns}
+use Rattle.session_state.specs.Meanings.{IsMeaningOf, Tell, diagram, generator, meaning_over}
 use Rattle.session_state.specs.States.{IsHistory, session_over}
 use Rattle.session_state.proofs.EditsBack.{all_last}
 

@@ -1,6 +1,5 @@
 -- The workspaces of a session after an edit was made and its opposite was kept.
-use Rattle.std.proofs.Common.{◌≡◌, ℕ, suc, ◌+◌, ◌-◌, ◌<◌, ◌≤◌, List, [], ◌∷◌, ◌++◌, length, take, map, reverse, Bool, true, All, Option, Some, None, refl, sym, ap, subst, ◌∙◌, arith}
-use Rattle.std.specs.List.{insert, remove}
+use Rattle.std.proofs.Common.{◌≡◌, ℕ, ◌+◌, ◌-◌, ◌≤◌, List, [], ◌∷◌, ◌++◌, length, map, reverse, true, All, Some, refl, sym, ap, subst, ◌∙◌, arith}
 use Rattle.std.proofs.lemmas.List.{length_push, length-take, reverse-append}
 use Rattle.std.proofs.lemmas.List.Edits.{length-insert, length-remove}
 use Rattle.std.proofs.lemmas.List.Elements.{All-cons, All-head, All-nil, All-push, All-tail, All-weaker}
@@ -14,7 +13,7 @@ use Rattle.workspace_lists.specs.Names.{knows}
 use Rattle.session_state.specs.declared.edit.Edit.{Edit}
 use Rattle.session_state.specs.declared.edit.Edit.TheVariants as edit
 use Rattle.workspace_lists.specs.Held.{Lists, trees_in}
-use Rattle.session_state.specs.Edits.{AllFit, AreKnown, AreOfOppositeKinds, Fits, HasType, IsGoodAt, IsWithin, LeadsBack, LeadsForth, diagrams_put, diagrams_put_by, edited, generators_put, put_by, turns}
+use Rattle.session_state.specs.Edits.{AllFit, AreOfOppositeKinds, Fits, HasType, IsGoodAt, IsWithin, LeadsBack, LeadsForth, diagrams_put, diagrams_put_by, edited, generators_put, put_by, turns}
 use Rattle.session_state.specs.States.{IsHistory, session_over}
 use Rattle.session_state.proofs.EditsBack.{all_last}
 

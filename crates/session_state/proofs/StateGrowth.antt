@@ -1,10 +1,10 @@
 -- A session whose store grew, and whose signature has no less room.
-use Rattle.std.proofs.Common.{◌≡◌, ℕ, ◌≤◌, ◌∙◌, sym, ap, subst, arith}
+use Rattle.std.proofs.Common.{◌≡◌, ◌≤◌, ◌∙◌, sym, ap, subst, arith}
 use Rattle.hashcons.specs.Contents.{Contents, Grows}
 use Rattle.typecheck.specs.Signatures.{AreGoodOver, IsGoodOver, SignatureState, generators_in, generators_of}
 use Rattle.workspace_json.specs.Workspaces as trees
 use Rattle.session_state.specs.declared.state.State.{State}
-use Rattle.session_state.specs.States.{HasRoom, IsState, Stays, lists_of, present_of, session_of}
+use Rattle.session_state.specs.States.{IsState, Stays, lists_of, present_of}
 use Rattle.workspace_lists.proofs.ForCallers.{trees-kept}
 use Rattle.session_state.proofs.GrownSessions.{history-kept, session-kept, telling-kept}
 use Rattle.session_state.proofs.StateInvariant.{generators_are, good_entries}

@@ -1,5 +1,5 @@
 -- The invariant of what a session keeps, after undo, redo and a change.
-use Rattle.std.proofs.Common.{◌≡◌, ℕ, zero, suc, ◌+◌, ◌-◌, ◌<◌, ◌≤◌, List, [], ◌∷◌, ◌++◌, length, take, map, reverse, get_or, Bool, true, All, Option, Some, None, option_map, refl, sym, ap, subst, ◌∙◌, arith}
+use Rattle.std.proofs.Common.{◌≡◌, ℕ, zero, suc, ◌+◌, ◌-◌, ◌<◌, ◌≤◌, List, [], ◌∷◌, ◌++◌, length, take, map, get_or, true, All, Option, Some, None, option_map, refl, sym, ap, subst, ◌∙◌, arith}
 use Rattle.std.specs.Vec.{vec_capacity}
 use Rattle.std.proofs.lemmas.List.{length-map, length_push, map-append, take-map}
 use Rattle.std.proofs.lemmas.List.Elements.{All-head, All-nil, All-tail}
@@ -8,9 +8,9 @@ use Rattle.diagram_terms.specs.Dimension.{dimension_of}
 use Rattle.diagram_terms.specs.Tree.{Tree}
 use Rattle.diagram_terms.specs.Typing.{Generator, generator_dim, IsGoodSignature, IsWellTyped}
 use Rattle.hashcons.specs.Contents.{Contents, IsDiagramOf, diagram_at}
-use Rattle.typecheck.specs.Signatures.{AreGoodOver, Entry, IsBoundaryOf, IsEntryOver, SignatureState, entry_of, generator_in, generators_in, no_entry}
+use Rattle.typecheck.specs.Signatures.{AreGoodOver, Entry, IsEntryOver, SignatureState, entry_of, generator_in, generators_in, no_entry}
 use Rattle.node_json.specs.Names.{is_good_name}
-use Rattle.workspace_json.specs.Workspaces.{IsWorkspace, NamedDiagram, Workspace, diagram_named, first_there, generators_of, term, type_named}
+use Rattle.workspace_json.specs.Workspaces.{IsWorkspace, NamedDiagram, Workspace, diagram_named, first_there, term, type_named}
 use Rattle.workspace_lists.specs.declared.names.Meaning.{Meaning}
 use Rattle.workspace_lists.specs.declared.names.Meaning.TheVariants as meaning
 use Rattle.workspace_lists.specs.declared.names.Names.{Names}

@@ -1,13 +1,13 @@
 -- Tables that tell what names stand for, before and after an edit.
-use Rattle.std.proofs.Common.{◌≡◌, ℕ, zero, suc, ◌+◌, ◌-◌, ◌<◌, ◌≤◌, List, [], ◌∷◌, ◌++◌, length, take, drop, map, get_or, cond, Bool, true, false, All, refl, sym, ap, subst, ◌∙◌, arith}
-use Rattle.std.specs.List.{insert, remove}
+use Rattle.std.proofs.Common.{◌≡◌, ℕ, zero, suc, ◌-◌, List, [], ◌∷◌, ◌++◌, length, take, drop, map, cond, Bool, true, false, refl, sym, ap, subst, ◌∙◌}
+use Rattle.std.specs.List.{insert}
 use Rattle.std.specs.Prelude.{bytes_eq}
 use Rattle.std.proofs.lemmas.List.{length-map, map-append, take-map}
 use Rattle.std.proofs.lemmas.Slice.Eq.{bytes_eq-Decides}
 use Rattle.diagram_terms.specs.GeneratorTypes.{type_of_generator}
 use Rattle.hashcons.specs.Contents.{Contents, IsDiagramOf, diagram_at}
 use Rattle.typecheck.specs.Signatures.{generator_in}
-use Rattle.workspace_json.specs.Workspaces.{IsWorkspace, NamedDiagram, NamedGenerator, Workspace}
+use Rattle.workspace_json.specs.Workspaces.{IsWorkspace, Workspace}
 use Rattle.workspace_lists.specs.declared.names.Meaning.{Meaning}
 use Rattle.workspace_lists.specs.declared.names.Meaning.TheVariants as meaning
 use Rattle.workspace_lists.specs.declared.names.Names.{Names}

@@ -1,5 +1,5 @@
 -- Edits: the steps between neighbouring workspaces of a session, over the ids of a store.
-use Rattle.std.specs.Prelude.{◌≡◌, ℕ, ◌+◌, ◌-◌, ◌<◌, ◌≤◌, List, [], ◌∷◌, ◌++◌, length, map, take, true}
+use Rattle.std.specs.Prelude.{◌≡◌, ℕ, ◌+◌, ◌-◌, ◌<◌, ◌≤◌, List, [], ◌∷◌, ◌++◌, length, take, true}
 use Rattle.std.specs.List.{All, insert, remove}
 use Rattle.diagram_terms.specs.GeneratorTypes.{type_of_generator}
 use Rattle.hashcons.specs.Contents.{Contents}
@@ -8,7 +8,6 @@ use Rattle.workspace_json.specs.Workspaces.{IsWorkspace}
 use Rattle.workspace_lists.specs.declared.names.Meaning.{Meaning}
 use Rattle.workspace_lists.specs.declared.names.Names.{Names}
 use Rattle.workspace_lists.specs.declared.workspace.Generator.{Generator}
-use Rattle.workspace_lists.specs.declared.workspace.Named.{Named}
 use Rattle.workspace_lists.specs.Held.{AreHeld, Lists, trees_in}
 use Rattle.workspace_lists.specs.Names.{knows}
 use Rattle.session_state.specs.Meanings.{IsMeaningOf, generator, meaning_over}

@@ -1,6 +1,5 @@
 -- What a session keeps, and the session of trees that it stands for.
-use Rattle.std.specs.Prelude.{◌≡◌, ℕ, ◌+◌, ◌≤◌, List, [], ◌∷◌, length, map, reverse, true}
-use Rattle.std.specs.Global.{Vec}
+use Rattle.std.specs.Prelude.{◌≡◌, ℕ, ◌+◌, ◌≤◌, List, length, map, reverse, true}
 use Rattle.std.specs.List.{All}
 use Rattle.std.specs.Vec.{vec_capacity}
 use Rattle.hashcons.specs.Contents.{Contents, Grows}
@@ -11,11 +10,10 @@ use Rattle.workspace_lists.specs.declared.names.Names.{Names}
 use Rattle.workspace_lists.specs.declared.workspace.Generator.{Generator}
 use Rattle.workspace_lists.specs.Names.{knows}
 use Rattle.session_state.specs.declared.edit.Edit.{Edit}
-use Rattle.session_state.specs.declared.edit.Edit.TheVariants as edit
 use Rattle.session_state.specs.declared.entries.Entries.{Entries}
 use Rattle.session_state.specs.declared.state.State.{State}
 use Rattle.workspace_lists.specs.Held.{Lists, trees_in}
-use Rattle.session_state.specs.Edits.{AllFit, AreKnown, Fits, IsGoodAt, LeadsBack, LeadsForth, diagrams_put, diagrams_put_by, edited, generators_put, turns}
+use Rattle.session_state.specs.Edits.{AllFit, Fits, IsGoodAt, LeadsBack, LeadsForth, diagrams_put, diagrams_put_by, edited, generators_put, turns}
 use Rattle.session_state.specs.Meanings.{Tell}
 
 abbrev pub lists_of : Entries → Lists

@@ -1,12 +1,11 @@
 -- A generator is added: what refuses it, and what a session keeps of it.
-use Rattle.std.proofs.Common.{◌≡◌, ℕ, suc, ◌+◌, ◌<◌, ◌≤◌, ◌⊎◌, inl, inr, List, [], ◌∷◌, ◌++◌, length, map, get_or, Bool, true, false, All, Option, Some, None, option_map, Result, Ok, Err, refl, sym, ap, subst, ◌∙◌, arith}
+use Rattle.std.proofs.Common.{◌≡◌, ℕ, ◌≤◌, ◌⊎◌, inl, inr, List, [], ◌∷◌, ◌++◌, length, get_or, true, Option, Some, None, Result, Ok, Err, refl, sym, ap, subst, ◌∙◌, arith}
 use Rattle.std.proofs.lemmas.List.{get_or_push, length-map, length_push, map-append}
 use Rattle.std.proofs.lemmas.List.Elements.{All-push}
 use Rattle.diagram_terms.specs.declared.label.Label.{Label}
 use Rattle.diagram_terms.specs.declared.limits.TheConstants.{GREATEST_DIM, MAX_GENERATORS}
 use Rattle.diagram_terms.specs.GeneratorTypes.{label_of, type_of_generator}
 use Rattle.diagram_terms.specs.Obstacles.{Obstacle, dim_differs, not_parallel, dim_limit, count_limit, ill_typed, obstacle}
-use Rattle.diagram_terms.specs.Tree.{Tree}
 use Rattle.diagram_terms.specs.Typing.{Generator, IsGoodSignature, generator_dim}
 use Rattle.hashcons.specs.Contents.{Contents, Grows, IsDiagramOf, diagram_at}
 use Rattle.typecheck.specs.declared.refusal.AddRefusal.{AddRefusal}
@@ -15,7 +14,6 @@ use Rattle.typecheck.specs.Outcomes.{IsAnswer, add_outcome, answer_of, refusal_b
 use Rattle.typecheck.specs.Signatures.{AreGoodOver, Entry, IsBoundaryOf, IsGoodOver, SignatureState, entry_of, generator_in, generators_in, no_entry}
 use Rattle.typecheck.proofs.GoodSignatures.{boundary-kept, generator-kept}
 use Rattle.workspace_json.specs.declared.refusal.Refusal.{Refusal}
-use Rattle.workspace_json.specs.declared.reply.Reply.{Reply}
 use Rattle.workspace_json.specs.declared.reply.Reply.TheVariants as reply
 use Rattle.workspace_json.specs.Sessions.{Session, Stepped, change}
 use Rattle.workspace_json.specs.Steps.{◌>>=◌, Changed, both, generator_change, known_boundary, new_name, no_obstacle, refusal_of}

@@ -1,23 +1,21 @@
 -- A stored diagram is dropped: the first of its name, which no other has.
-use Rattle.std.proofs.Common.{◌≡◌, ℕ, zero, suc, ◌+◌, ◌<◌, ◌≤◌, List, [], ◌∷◌, ◌++◌, length, take, drop, map, get_or, cond, Bool, true, false, not, All, Option, Some, None, option_map, refl, sym, ap, subst, ◌∙◌, arith, add-zero}
-use Rattle.std.specs.List.{count_by, filter, insert, position_from, remove}
+use Rattle.std.proofs.Common.{◌≡◌, ℕ, zero, suc, ◌+◌, ◌<◌, ◌≤◌, List, [], ◌∷◌, length, map, get_or, cond, Bool, true, false, not, All, Option, Some, None, option_map, refl, sym, ap, subst, ◌∙◌, arith, add-zero}
+use Rattle.std.specs.List.{count_by, filter, position_from, remove}
 use Rattle.std.specs.Prelude.{bytes_eq, position}
 use Rattle.std.proofs.lemmas.Iterator.Adapters.{position_from-zero}
-use Rattle.std.proofs.lemmas.List.{length-map, length_push}
-use Rattle.std.proofs.lemmas.List.Edits.{length-remove}
+use Rattle.std.proofs.lemmas.List.{length-map}
 use Rattle.std.proofs.lemmas.List.Elements.{All-append}
 use Rattle.std.proofs.lemmas.List.Sums.{sum_by-insert}
 use Rattle.diagram_terms.specs.declared.limits.TheConstants.{GREATEST_DIM}
 use Rattle.diagram_terms.specs.Dimension.{dimension_of}
 use Rattle.diagram_terms.specs.Tree.{Tree}
 use Rattle.diagram_terms.specs.Typing.{IsWellTyped}
-use Rattle.hashcons.specs.Contents.{Contents, IsDiagramOf, diagram_at}
+use Rattle.hashcons.specs.Contents.{Contents, IsDiagramOf}
 use Rattle.node_json.specs.Names.{is_good_name}
 use Rattle.workspace_json.specs.Workspaces.{IsWorkspace, NamedDiagram, NamedGenerator, Workspace, diagram_named, generators_of, names_of, without_diagram}
 use Rattle.workspace_lists.specs.declared.workspace.Named.{Named}
-use Rattle.workspace_lists.specs.Held.{Lists, diagram_over, diagrams_over, trees_in}
+use Rattle.workspace_lists.specs.Held.{diagram_over, diagrams_over, trees_in}
 use Rattle.workspace_lists.specs.Names.{knows}
-use Rattle.session_state.specs.declared.edit.Edit.{Edit}
 use Rattle.session_state.specs.declared.edit.Edit.TheVariants as edit
 use Rattle.session_state.specs.declared.state.State.{State}
 use Rattle.session_state.specs.Edits.{edited}

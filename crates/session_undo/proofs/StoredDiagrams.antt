@@ -1,7 +1,7 @@
 -- Changes of what a session keeps.
-use Rattle.std.proofs.Common.{◌≡◌, ℕ, ◌+◌, ◌<◌, ◌≤◌, List, [], ◌∷◌, ◌++◌, length, map, true, All, Result, Ok, Err, refl, sym, ap, subst, ◌∙◌, arith}
-use Rattle.std.specs.List.{insert, remove}
-use Rattle.std.proofs.lemmas.List.{length_push, map-append}
+use Rattle.std.proofs.Common.{◌≡◌, ℕ, ◌≤◌, List, [], ◌∷◌, ◌++◌, length, map, true, All, Result, Ok, sym, ap, subst, ◌∙◌, arith}
+use Rattle.std.specs.List.{insert}
+use Rattle.std.proofs.lemmas.List.{map-append}
 use Rattle.std.proofs.lemmas.List.Edits.{insert_end}
 use Rattle.std.proofs.lemmas.List.Elements.{All-push}
 use Rattle.diagram_terms.specs.declared.limits.TheConstants.{GREATEST_DIM}
@@ -11,23 +11,21 @@ use Rattle.diagram_terms.specs.Family.{length_of}
 use Rattle.diagram_terms.specs.Shape.{IsDiagram}
 use Rattle.diagram_terms.specs.Tree.{Tree, sings}
 use Rattle.diagram_terms.specs.Typing.{IsWellTyped}
-use Rattle.hashcons.specs.Contents.{Contents, Grows, IsDiagramOf, diagram_at}
+use Rattle.hashcons.specs.Contents.{Contents, IsDiagramOf, diagram_at}
 use Rattle.workspace_json.specs.declared.refusal.Refusal.{Refusal}
 use Rattle.workspace_json.specs.declared.reply.Reply.{Reply}
 use Rattle.workspace_json.specs.declared.reply.Reply.TheVariants as reply
 use Rattle.workspace_json.specs.declared.reply.Word.{Word}
 use Rattle.workspace_json.specs.Sessions.{Session, Stepped, change}
-use Rattle.workspace_json.specs.Steps.{◌>>=◌, Changed, length_in, stored, well_typed}
-use Rattle.workspace_json.specs.Workspaces.{IsWorkspace, NamedDiagram, Workspace, generators_of, with_diagram}
-use Rattle.workspace_lists.specs.declared.names.Names.{Names}
-use Rattle.workspace_lists.specs.declared.workspace.Generator.{Generator}
+use Rattle.workspace_json.specs.Steps.{◌>>=◌, length_in, stored, well_typed}
+use Rattle.workspace_json.specs.Workspaces.{IsWorkspace, Workspace, generators_of, with_diagram}
 use Rattle.workspace_lists.specs.declared.workspace.Named.{Named}
-use Rattle.workspace_lists.specs.Held.{AreHeld, Lists, diagram_over, trees_in}
+use Rattle.workspace_lists.specs.Held.{Lists, diagram_over, trees_in}
 use Rattle.workspace_lists.specs.Names.{knows}
 use Rattle.session_state.specs.declared.edit.Edit.{Edit}
 use Rattle.session_state.specs.declared.edit.Edit.TheVariants as edit
 use Rattle.session_state.specs.declared.state.State.{State}
-use Rattle.session_state.specs.Edits.{AreKnown, IsGoodAt, edited}
+use Rattle.session_state.specs.Edits.{edited}
 use Rattle.session_state.specs.States.{CanAccept, HasRoomForEdit, HasRoomForOne, IsState, lists_of, present_of}
 use Rattle.session_state.proofs.Histories.{diagrams_put-le}
 use Rattle.session_undo.proofs.TreeLengths.{tree_length}

@@ -1,5 +1,5 @@
 -- Commands, test by test.
-use Rattle.std.proofs.Common.{◌≡◌, ℕ, suc, ◌+◌, ◌<◌, ◌≤◌, List, [], ◌∷◌, length, map, Bool, true, false, Option, Some, None, Result, Ok, Err, refl, sym, ap, subst, ◌∙◌, arith}
+use Rattle.std.proofs.Common.{◌≡◌, ℕ, List, Bool, Some, None, Result, Ok, Err, refl, ap, subst, ◌∙◌}
 use Rattle.std.specs.Prelude.{nat_lt}
 use Rattle.diagram_terms.specs.declared.limits.TheConstants.{GREATEST_DIM}
 use Rattle.diagram_terms.specs.declared.place.Height.{Height}
@@ -14,8 +14,8 @@ use Rattle.workspace_json.specs.declared.refusal.Refusal.TheVariants as refusal
 use Rattle.workspace_json.specs.declared.reply.Reply.{Reply}
 use Rattle.workspace_json.specs.declared.reply.Reply.TheVariants as reply
 use Rattle.workspace_json.specs.declared.reply.Word.TheVariants as word
-use Rattle.workspace_json.specs.Sessions.{Session, Stepped, change, read}
-use Rattle.workspace_json.specs.Steps.{◌>>=◌, Changed, boundary_change, drop_change, end_of, equal_answer, identity_change, known, new_name, or_refuse, printed, refuse_unless, slice_answer, slice_found, stored}
+use Rattle.workspace_json.specs.Sessions.{Session, change, read}
+use Rattle.workspace_json.specs.Steps.{◌>>=◌, Changed, boundary_change, drop_change, end_of, equal_answer, identity_change, known, new_name, or_refuse, refuse_unless, slice_answer, slice_found, stored}
 use Rattle.workspace_json.specs.Workspaces.{Workspace, diagram_named, without_diagram}
 use Rattle.session_undo.specs.declared.stop.Stop.{Stop}
 use Rattle.session_undo.specs.declared.stop.Stop.TheVariants as stop

@@ -1,5 +1,5 @@
 -- Every workspace of a session is one by the rule; redo gives back what undo took, and undo what redo made.
-use Rattle.std.proofs.Common.{◌≡◌, List, [], ◌∷◌, Some, None, All, map, refl, subst}
+use Rattle.std.proofs.Common.{◌≡◌, List, [], ◌∷◌, Some, All, map, refl, subst}
 use Rattle.std.proofs.lemmas.List.Elements.{All-map, All-weaker}
 use Rattle.hashcons.specs.Contents.{Contents}
 use Rattle.workspace_json.specs.Sessions.{IsSession, Session, back, forth, redone, undone}

@@ -1,14 +1,14 @@
 -- Workspaces by the rule, after a change.
-use Rattle.std.proofs.Common.{◌≡◌, ℕ, suc, ◌+◌, ◌<◌, ◌≤◌, List, [], ◌∷◌, ◌++◌, zero, length, slice_get, take, drop, map, cond, Bool, true, false, not, All, Option, Some, None, is_none, Result, Ok, Err, refl, sym, ap, subst, ◌∙◌, arith}
-use Rattle.std.specs.List.{count_by, filter, insert, remove, flat_map}
+use Rattle.std.proofs.Common.{◌≡◌, ℕ, suc, ◌+◌, ◌≤◌, List, [], ◌∷◌, ◌++◌, zero, length, slice_get, take, drop, map, cond, Bool, true, false, All, Option, Some, None, is_none, Ok, refl, sym, ap, subst, ◌∙◌, arith}
+use Rattle.std.specs.List.{count_by, remove}
 use Rattle.std.specs.Prelude.{bytes_eq}
-use Rattle.std.proofs.lemmas.List.{append_assoc, drop_at, length_push, map-append, take_at}
-use Rattle.std.proofs.lemmas.List.Elements.{All-append, All-drop, All-map, All-push, All-take, All-weaker}
+use Rattle.std.proofs.lemmas.List.{append_assoc, drop_at, map-append, take_at}
+use Rattle.std.proofs.lemmas.List.Elements.{All-append, All-drop, All-push, All-take, All-weaker}
 use Rattle.diagram_terms.specs.Decoded.{dia}
 use Rattle.diagram_terms.specs.Dimension.{dimension_of}
 use Rattle.diagram_terms.specs.Points.{Point, points}
 use Rattle.diagram_terms.specs.Tree.{Tree}
-use Rattle.diagram_terms.specs.Typing.{Generator, IsGoodGenerator, IsGoodSignature, IsWellTyped, generator_dim, has_dim, is_generator}
+use Rattle.diagram_terms.specs.Typing.{Generator, IsGoodSignature, IsWellTyped, generator_dim, has_dim, is_generator}
 use Rattle.node_json.specs.Names.{is_good_name}
 use Rattle.workspace_json.specs.declared.refusal.Refusal.{Refusal}
 use Rattle.workspace_json.specs.declared.refusal.Refusal.TheVariants as refusal

@@ -8,7 +8,7 @@ use crate::stop::Stop;
 use diagram_terms::Text;
 use session_state::{Edit, State};
 use workspace_json::{Refusal, Reply, Word};
-use workspace_lists::Named;
+use workspace_lists::Workspace;
 
 /// Takes the stored diagram of a name away. The diagrams behind it move up.
 pub(crate) fn drop_command(state: &mut State, name: &Text) -> Result<Reply, Stop>
@@ -20,7 +20,7 @@ pub(crate) fn drop_command(state: &mut State, name: &Text) -> Result<Reply, Stop
 {
     let alloc = state.store.allocator();
     let copy = name.copy(alloc)?;
-    let Some(place) = place_of(&state.entries.workspace.diagrams, name) else {
+    let Some(place) = place_of(&state.entries.workspace, name) else {
         return Err(Stop::Refused(Refusal::Unknown { name: copy }));
     };
     state.make_room(name.as_str())?;
@@ -32,10 +32,11 @@ pub(crate) fn drop_command(state: &mut State, name: &Text) -> Result<Reply, Stop
 }
 
 /// The place of the stored diagram of a name.
-fn place_of(diagrams: &[Named], name: &Text) -> Option<usize>
-    ensures { IsPlaceOf diagrams.now name.now result }
+fn place_of(workspace: &Workspace, name: &Text) -> Option<usize>
+    ensures { IsPlaceOf workspace.now.diagrams.items name.now result }
 {
-    diagrams
+    workspace
+        .diagrams
         .iter()
         .position(|diagram| diagram.name.as_str() == name.as_str())
 }

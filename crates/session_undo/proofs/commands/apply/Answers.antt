@@ -1,7 +1,6 @@
 use Rattle.std.proofs.Common.{sym}
 use Rattle.workspace_json.specs.Sessions.{step}
-use Rattle.workspace_json.specs.Steps.{equal_answer, save_answer, slice_answer, stats_answer}
-use Rattle.session_state.specs.States.{present_of, session_of}
+use Rattle.session_state.specs.States.{session_of}
 use Rattle.session_undo.proofs.TestedCommands.{read_comes}
 use Rattle.session_undo.proofs.commands.apply.Goals as goal
 

@@ -1,4 +1,4 @@
-use Rattle.std.proofs.Common.{◌≡◌, ◌≤◌, ◌<◌, ◌∙◌, suc, Bool, true, false, Ok, Err, refl, sym, ap, subst, arith}
+use Rattle.std.proofs.Common.{◌≡◌, ◌≤◌, ◌∙◌, true, false, refl, sym, ap, subst, arith}
 use Rattle.std.specs.Prelude.{nat_lt}
 use Rattle.std.proofs.lemmas.Bool.Decides.{nat_tests}
 use Rattle.std.proofs.lemmas.Result.{err_from_is_err_and}
@@ -7,9 +7,9 @@ use Rattle.diagram_terms.specs.Dimension.{IsDiagramTree, dimension_of}
 use Rattle.diagram_terms.specs.Shape.{IsDiagram}
 use Rattle.diagram_terms.specs.Tree.{Tree}
 use Rattle.hashcons.specs.Contents.{diagram_at}
-use Rattle.workspace_json.specs.Sessions.{Session, change}
+use Rattle.workspace_json.specs.Sessions.{change}
 use Rattle.workspace_json.specs.declared.reply.Word.TheVariants as word
-use Rattle.workspace_json.specs.Steps.{end_of, known, new_name, stored}
+use Rattle.workspace_json.specs.Steps.{known, new_name, stored}
 use Rattle.session_state.specs.States.{present_of, session_of}
 use Rattle.session_undo.proofs.TestedCommands.{boundary_tested, boundary_unknown, boundary_unnamed, comes_by, stopped}
 use Rattle.session_undo.proofs.LowTerms.{end_dimension, term_is_low}

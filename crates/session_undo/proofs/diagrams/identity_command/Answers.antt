@@ -1,17 +1,15 @@
-use Rattle.std.proofs.Common.{◌≡◌, ◌≤◌, ◌<◌, ◌∙◌, suc, Bool, true, false, Ok, Err, refl, sym, ap, subst, arith}
+use Rattle.std.proofs.Common.{◌≡◌, ◌∙◌, suc, true, false, sym, ap, arith}
 use Rattle.std.specs.Prelude.{nat_lt}
 use Rattle.std.proofs.lemmas.Bool.Decides.{nat_tests}
 use Rattle.std.proofs.lemmas.Result.{err_from_is_err_and}
 use Rattle.diagram_terms.specs.declared.limits.TheConstants.{GREATEST_DIM}
 use Rattle.diagram_terms.specs.ConeTrees.{identity_diagram_tree}
 use Rattle.diagram_terms.specs.Dimension.{dimension_of}
-use Rattle.diagram_terms.specs.Tree.{Tree}
 use Rattle.hashcons.specs.Contents.{diagram_at}
 use Rattle.hashcons.proofs.Growth.{Grows-trans}
-use Rattle.workspace_json.specs.Sessions.{Session, change}
+use Rattle.workspace_json.specs.Sessions.{change}
 use Rattle.workspace_json.specs.declared.reply.Word.TheVariants as word
 use Rattle.workspace_json.specs.Steps.{known, new_name, stored}
-use Rattle.workspace_json.specs.Workspaces.{Workspace}
 use Rattle.session_state.specs.States.{present_of, session_of}
 use Rattle.session_undo.proofs.TestedCommands.{comes_by, identity_tested, identity_unknown, identity_unnamed, stopped}
 use Rattle.session_undo.proofs.TreeLengths.{identity_dimension}

@@ -1,4 +1,4 @@
-use Rattle.std.proofs.Common.{◌≡◌, ◌∙◌, ℕ, List, ◌∷◌, [], Some, None, Ok, Err, refl, sym, ap, subst}
+use Rattle.std.proofs.Common.{◌≡◌, ◌∙◌, ℕ, List, Some, sym, ap}
 use Rattle.std.specs.Prelude.{bytes_eq, position}
 use Rattle.workspace_json.specs.declared.refusal.Refusal.TheVariants as refusal
 use Rattle.workspace_json.specs.declared.reply.Reply.TheVariants as reply
@@ -7,7 +7,7 @@ use Rattle.workspace_json.specs.Sessions.{Stepped, change}
 use Rattle.workspace_json.specs.Workspaces.{Workspace, diagram_named, without_diagram}
 use Rattle.workspace_lists.specs.declared.workspace.Named.{Named}
 use Rattle.workspace_lists.specs.Held.{Lists}
-use Rattle.session_state.specs.States.{lists_of, present_of, session_of}
+use Rattle.session_state.specs.States.{present_of, session_of}
 use Rattle.session_undo.proofs.StoredDiagrams.{accepted}
 use Rattle.session_undo.proofs.TestedCommands.{drop_known, drop_unknown}
 use Rattle.session_undo.proofs.DroppedDiagrams.{can_take_diagram, dropped_in, dropped_tree, not_stored, room_to_take_diagram, was_stored}

@@ -1,6 +1,6 @@
-use Rattle.std.proofs.Common.{◌≡◌, ◌∙◌, ◌-◌, List, length, take, sym, subst}
+use Rattle.std.proofs.Common.{◌∙◌, ◌-◌, length, sym, subst}
 use Rattle.hashcons.proofs.Growth.{Grows-trans}
-use Rattle.typecheck.specs.Signatures.{AreGoodOver, Entry}
+use Rattle.typecheck.specs.Signatures.{AreGoodOver}
 use Rattle.typecheck.proofs.GoodSignatures.{good-kept, good-take}
 use Rattle.session_undo.proofs.AddedGenerators.{number_by_add, type_by_number}
 use Rattle.session_undo.proofs.generators.add_generator.Goals as goal

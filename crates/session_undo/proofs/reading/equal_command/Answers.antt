@@ -1,8 +1,7 @@
-use Rattle.std.proofs.Common.{◌≡◌, ◌∙◌, Bool, true, false, Ok, Err, List, refl, sym, ap, subst}
+use Rattle.std.proofs.Common.{◌∙◌, Ok, sym, ap}
 use Rattle.std.proofs.lemmas.Result.{err_from_is_err_and}
 use Rattle.workspace_json.specs.declared.reply.Reply.TheVariants as reply
 use Rattle.workspace_json.specs.Steps.{known}
-use Rattle.hashcons.specs.Contents.{diagram_at}
 use Rattle.session_state.specs.States.{present_of}
 use Rattle.session_undo.proofs.TestedCommands.{both_known, one_unknown, stopped_answer, two_unknown}
 use Rattle.session_undo.proofs.reading.equal_command.Goals as goal

@@ -1,6 +1,5 @@
-use Rattle.std.proofs.Common.{◌≡◌, ◌∙◌, Ok, Err, List, refl, sym, ap, subst}
+use Rattle.std.proofs.Common.{◌∙◌, Ok, sym, ap}
 use Rattle.std.proofs.lemmas.Result.{err_from_is_err_and}
-use Rattle.workspace_json.specs.declared.reply.Reply.{Reply}
 use Rattle.workspace_json.specs.Steps.{known}
 use Rattle.hashcons.specs.Contents.{diagram_at}
 use Rattle.session_state.specs.States.{present_of}

@@ -1,22 +1,15 @@
-use Rattle.std.proofs.Common.{◌≡◌, ◌∙◌, ◌≤◌, List, ℕ, length, true, Ok, refl, sym, ap, subst, arith}
+use Rattle.std.proofs.Common.{◌≡◌, ◌∙◌, ◌≤◌, List, ℕ, true, sym, subst, arith}
 use Rattle.diagram_terms.specs.declared.limits.TheConstants.{GREATEST_DIM}
-use Rattle.diagram_terms.specs.Decoded.{dia}
 use Rattle.diagram_terms.specs.Dimension.{dimension_of}
-use Rattle.diagram_terms.specs.Family.{length_of}
-use Rattle.diagram_terms.specs.Shape.{IsDiagram}
-use Rattle.diagram_terms.specs.Tree.{Tree, sings}
+use Rattle.diagram_terms.specs.Tree.{Tree}
 use Rattle.diagram_terms.specs.Typing.{IsWellTyped}
 use Rattle.hashcons.specs.Contents.{IsDiagramOf, diagram_at}
-use Rattle.workspace_json.specs.declared.reply.Reply.{Reply}
-use Rattle.workspace_json.specs.declared.reply.Reply.TheVariants as reply
-use Rattle.workspace_json.specs.Steps.{length_in, new_name, well_typed}
 use Rattle.workspace_json.specs.Workspaces.{Workspace, generators_of, with_diagram}
 use Rattle.workspace_lists.specs.declared.workspace.Named.{Named}
 use Rattle.workspace_lists.specs.Names.{knows}
 use Rattle.session_state.specs.States.{lists_of, present_of, session_of}
 use Rattle.session_undo.proofs.StoredDiagrams.{accepted, can_put_diagram, room_to_put_diagram, said_stored, stored_comes, with_diagram_in}
 use Rattle.session_undo.proofs.WorkspaceRules.{IsNew, is_new}
-use Rattle.session_undo.proofs.TreeLengths.{tree_length}
 use Rattle.session_undo.proofs.storing.store_diagram.Goals as goal
 
 pub accept-requires-clause-can : goal.accept-requires-clause-can

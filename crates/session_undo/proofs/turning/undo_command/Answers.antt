@@ -1,7 +1,7 @@
-use Rattle.std.proofs.Common.{◌≡◌, ◌∙◌, Bool, true, false, Option, MatchBool, refl, sym, ap, subst}
+use Rattle.std.proofs.Common.{◌∙◌, sym, ap}
 use Rattle.workspace_json.specs.declared.refusal.Refusal.TheVariants as refusal
 use Rattle.workspace_json.specs.declared.reply.Reply.TheVariants as reply
-use Rattle.workspace_json.specs.Sessions.{Session, Stepped, go, step, undone}
+use Rattle.workspace_json.specs.Sessions.{Stepped, go, step}
 use Rattle.session_state.specs.declared.state.State.{State}
 use Rattle.session_state.specs.States.{session_of}
 use Rattle.session_undo.proofs.turning.undo_command.Goals as goal

@@ -3,7 +3,6 @@ use Rattle.workspace_lists.specs.declared.workspace.Named.{Named}
 use Rattle.workspace_lists.specs.Names.{knows}
 use Rattle.session_state.specs.declared.edit.Edit.{Edit}
 use Rattle.session_state.specs.declared.edit.Edit.TheVariants as edit
-use Rattle.workspace_lists.specs.Held.{Lists}
 use Rattle.session_state.specs.Edits.{AreKnown, IsWithin, edited}
 use Rattle.session_state.specs.States.{lists_of}
 use Rattle.session_state.proofs.EditsBack.{all_put, remove-insert}

@@ -1,4 +1,4 @@
-use Rattle.std.proofs.Common.{◌≡◌, ◌≤◌, ◌∙◌, ◌++◌, ◌∷◌, [], List, ℕ, length, true, All, subst, sym, ap, cond, arith, Err, Ok}
+use Rattle.std.proofs.Common.{◌≡◌, List, All, subst, sym}
 use Rattle.std.specs.List.{insert}
 use Rattle.hashcons.specs.Contents.{IsDiagramOf}
 use Rattle.workspace_json.specs.Workspaces.{IsWorkspace}
@@ -7,7 +7,7 @@ use Rattle.workspace_lists.specs.declared.workspace.Named.{Named}
 use Rattle.workspace_lists.specs.Held.{trees_in}
 use Rattle.session_state.specs.Meanings.{Tell}
 use Rattle.session_state.proofs.EditsBack.{all_put}
-use Rattle.session_state.proofs.ToldMeanings.{at, tell_put_diagram, Replaces, generators_at}
+use Rattle.session_state.proofs.ToldMeanings.{at, tell_put_diagram, Replaces}
 use Rattle.session_state.proofs.entries.Entries.put_diagram.Goals as goal
 
 pub returns-clause-names : goal.returns-clause-names

@@ -1,10 +1,10 @@
-use Rattle.std.proofs.Common.{◌≡◌, ℕ, ◌+◌, ◌≤◌, ◌∙◌, ◌++◌, ◌∷◌, [], List, length, true, All, subst, sym, ap, arith}
+use Rattle.std.proofs.Common.{◌≡◌, ◌+◌, ◌∙◌, [], List, length, subst, sym, ap, arith}
 use Rattle.std.proofs.lemmas.List.{length_push}
 use Rattle.session_state.specs.declared.edit.Edit.{Edit}
 use Rattle.workspace_lists.specs.Held.{Lists}
-use Rattle.session_state.specs.Edits.{diagrams_put, diagrams_put_by, edited, generators_put, put_by}
+use Rattle.session_state.specs.Edits.{diagrams_put, diagrams_put_by, generators_put}
 use Rattle.session_state.specs.States.{IsHistory, entries_over, lists_of, session_over}
-use Rattle.session_state.proofs.Histories.{balanced, diagrams_put-push, opposite_back, back_puts_no_generator, session_anew, turned_anew}
+use Rattle.session_state.proofs.Histories.{balanced, diagrams_put-push, session_anew, turned_anew}
 use Rattle.session_state.proofs.StateInvariant.{forth_length, room_for, told}
 use Rattle.session_state.proofs.state.State.accept.Goals as goal
 

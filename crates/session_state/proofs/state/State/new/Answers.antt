@@ -1,13 +1,6 @@
-use Rattle.std.proofs.Common.{◌≡◌, ◌∙◌, [], List, length, sym, ap, arith, subst}
-use Rattle.std.specs.Global.{Vec}
-use Rattle.session_state.specs.declared.edit.Edit.{Edit}
-use Rattle.workspace_lists.specs.declared.workspace.Generator.{Generator}
-use Rattle.workspace_lists.specs.declared.workspace.Named.{Named}
-use Rattle.workspace_lists.specs.Held.{trees_in}
+use Rattle.std.proofs.Common.{◌∙◌, length, sym, ap, arith}
 use Rattle.session_state.specs.Edits.{diagrams_put, generators_put}
-use Rattle.session_state.specs.Meanings.{Tell}
-use Rattle.session_state.specs.States.{IsHistory, entries_over}
-use Rattle.session_state.proofs.ToldMeanings.{generators_at}
+use Rattle.session_state.specs.States.{entries_over}
 use Rattle.session_state.proofs.StateInvariant.{history_of_nothing, tell_nothing}
 use Rattle.session_state.proofs.state.State.new.Goals as goal
 

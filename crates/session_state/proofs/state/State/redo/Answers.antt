@@ -1,9 +1,9 @@
-use Rattle.std.proofs.Common.{◌≡◌, ℕ, ◌+◌, ◌≤◌, ◌∙◌, ◌++◌, ◌∷◌, [], List, length, true, All, subst, sym, ap, arith, Some}
+use Rattle.std.proofs.Common.{◌≡◌, ◌+◌, ◌∙◌, ◌++◌, ◌∷◌, [], List, length, subst, sym, ap, arith, Some}
 use Rattle.std.proofs.lemmas.List.{length_push}
 use Rattle.workspace_json.specs.Sessions.{redone}
 use Rattle.session_state.specs.declared.edit.Edit.{Edit}
 use Rattle.workspace_lists.specs.Held.{Lists}
-use Rattle.session_state.specs.Edits.{LeadsForth, diagrams_put, diagrams_put_by, edited, generators_put, put_by}
+use Rattle.session_state.specs.Edits.{LeadsForth, diagrams_put, diagrams_put_by, generators_put, put_by}
 use Rattle.session_state.specs.Signing.{followed_forth}
 use Rattle.session_state.specs.States.{IsHistory, entries_over, lists_of, session_over}
 use Rattle.session_state.proofs.EditsBack.{all_last}

@@ -1,14 +1,13 @@
-use Rattle.std.proofs.Common.{◌≡◌, ℕ, ◌+◌, ◌≤◌, ◌∙◌, ◌++◌, ◌∷◌, [], List, length, true, All, subst, sym, ap, arith, Some}
+use Rattle.std.proofs.Common.{◌≡◌, ◌+◌, ◌∙◌, ◌++◌, ◌∷◌, [], List, length, subst, sym, ap, arith, Some}
 use Rattle.std.proofs.lemmas.List.{length_push}
 use Rattle.workspace_json.specs.Sessions.{undone}
 use Rattle.session_state.specs.declared.edit.Edit.{Edit}
-use Rattle.workspace_lists.specs.Held.{Lists, trees_in}
-use Rattle.session_state.specs.Edits.{Fits, HasType, IsGoodAt, LeadsBack, diagrams_put, diagrams_put_by, edited, generators_put, put_by}
-use Rattle.session_state.specs.EditSteps.{Telling}
+use Rattle.workspace_lists.specs.Held.{Lists}
+use Rattle.session_state.specs.Edits.{LeadsBack, diagrams_put, diagrams_put_by, generators_put, put_by}
 use Rattle.session_state.specs.Signing.{followed_back}
 use Rattle.session_state.specs.States.{IsHistory, entries_over, lists_of, session_over}
 use Rattle.session_state.proofs.EditsBack.{all_last}
-use Rattle.session_state.proofs.Histories.{AreBalanced, back_puts_no_generator, balanced, diagrams_put-push, generators_put-push, next_fits, next_good, session_back, turned_back}
+use Rattle.session_state.proofs.Histories.{back_puts_no_generator, balanced, diagrams_put-push, generators_put-push, next_fits, next_good, session_back, turned_back}
 use Rattle.session_state.proofs.StateInvariant.{can_follow_back, follows_back, room_for, taken_is_put, told}
 use Rattle.session_state.proofs.state.State.undo.Goals as goal
 
