@@ -9,6 +9,7 @@ pub mod PutLemmas
 pub mod PickLemmas
 pub mod ViewLemmas
 pub mod IdLemmas
+pub mod EmptyStore
 pub mod Growth
 pub mod FoundStays
 pub mod Layers

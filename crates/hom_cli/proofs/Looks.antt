@@ -18,7 +18,8 @@ use Rattle.diagram_terms.proofs.NodeTests.{dim_of}
 use Rattle.diagram_terms.proofs.Shapes.{one_kind}
 use Rattle.hashcons.specs.declared.id.AnyId.{AnyId}
 use Rattle.hashcons.specs.declared.id.AnyId.TheVariants as id
-use Rattle.hashcons.specs.Contents.{Contents, Grows, IsStore, empty}
+use Rattle.hashcons.specs.Contents.{Contents, IsStore}
+pub use Rattle.hashcons.proofs.EmptyStore.{grown_is_store}
 use Rattle.hashcons.specs.Contents as store
 use Rattle.hashcons.specs.Ids.{GathersIds, IsOf, IsDiagramId, id_at, tree_of}
 use Rattle.node_json.specs.declared.document.DiagramEntry.{DiagramEntry}
@@ -36,26 +37,6 @@ looked name t d len at shape len_is at_is =
     let q : len ≡ length_of d (dia d t) = len_is ∙ tree_length d t shape in
     let r : at ≡ first_bad_place d (dia d t) = at_is ∙ ap (λ (n : ℕ). first_bad_place n (dia n t)) e in
     (λ i. Look d (q i) name (r i)) ∙ ap (λ (n : ℕ). looked_at name n (dia n t)) (sym e)
-
--- a store with nothing is one
-pub empty_is_store : IsStore empty
-empty_is_store = record {
-  diagrams_once = λ i j l m e. absurd (omega arith);
-  arrows_once = λ i j l m e. absurd (omega arith);
-  diagrams = λ d l. absurd (omega arith);
-  arrows = λ a l. absurd (omega arith);
-  slices = λ d l. absurd (omega arith);
-  legs = λ d l. absurd (omega arith);
-  arrow_slices = λ a l. absurd (omega arith);
-  diagram_dims = λ d l. absurd (omega arith);
-  arrow_dims = λ a l. absurd (omega arith);
-  identities = λ d a e. cc;
-  composites = λ g f h e. cc;
-}
-
--- and so is one that grew from it
-pub grown_is_store : (new grown : Contents) → new ≡ empty → Grows new grown → IsStore grown
-grown_is_store new grown e grows = grows.store (subst IsStore (sym e) empty_is_store)
 
 -- ---- the diagram at a place
 

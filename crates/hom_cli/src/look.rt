@@ -6,7 +6,6 @@ ghost use Rattle.diagram_terms.specs.declared.limits.TheConstants.{GREATEST_DIM}
 ghost use Rattle.diagram_terms.specs.Dimension.{dimension_of};
 ghost use Rattle.hashcons.specs.Contents.{IsDiagramOf, Grows, diagram_at};
 ghost use Rattle.node_json.specs.Documents.{IsDocument};
-ghost use Rattle.zigzag_maps.specs.Keeps.{AreRight};
 ghost use Rattle.zigzag_maps.specs.Visits.{fault_of};
 ghost use Rattle.hom_cli.specs.Full.{looks, on_document, tree_reply};
 
@@ -18,7 +17,7 @@ use hashcons::{AnyId, DiagramId, Store};
 use io_edge::{Sink, WriteAllFault};
 use std::alloc::{AllocError, Global};
 use workspace_json::{Document, Reply, reply_text};
-use zigzag_maps::{Kept, SquareTest, valid_keeping};
+use zigzag_maps::{SquareTest, valid};
 
 /// The first place where a diagram is not valid, where the test found one.
 fn place_of(test: SquareTest) -> Option<Place>
@@ -34,18 +33,15 @@ fn place_of(test: SquareTest) -> Option<Place>
 fn looked_at(
     alloc: Global,
     store: &mut Store,
-    kept: &mut Kept,
     diagram: DiagramId,
     name: &Text,
 ) -> Result<Reply, AllocError>
     requires of_store { IsDiagramOf store.old diagram }
-    requires kept { AreRight store.old kept.old }
     requires dim { dimension_of (diagram_at store.old diagram) ≤ GREATEST_DIM }
     ensures reply { IfOk result (λ reply. reply ≡ tree_reply name.now (diagram_at store.old diagram)) }
-    ensures kept { AreRight store.new kept.new }
     ensures grows { Grows store.old store.new }
 {
-    let at = place_of(valid_keeping(alloc, store, kept, diagram)?);
+    let at = place_of(valid(alloc, store, diagram)?);
     let name = name.copy(alloc)?;
     Ok(Reply::Look {
         dim: store.dim(AnyId::Diagram(diagram)) as u8,
@@ -55,7 +51,7 @@ fn looked_at(
     })
 }
 
-/// Writes a line for each diagram of the document. What one test finds out is kept for the next ones.
+/// Writes a line for each diagram of the document.
 pub(crate) fn write_looks<K: Sink>(
     alloc: Global,
     document: &Document,
@@ -73,11 +69,10 @@ pub(crate) fn write_looks<K: Sink>(
 {
     let mut store = Store::new(alloc);
     let ids = store.put_nodes(document.nodes.as_slice())?;
-    let mut kept = Kept::new(alloc);
     let mut status = Status::Done;
     for entry in document.diagrams.as_slice() {
         let diagram = diagram_of(ids[entry.root]);
-        let reply = looked_at(alloc, &mut store, &mut kept, diagram, &entry.name)?;
+        let reply = looked_at(alloc, &mut store, diagram, &entry.name)?;
         write_line(output, reply_text(alloc, &reply)?)?;
         if !is_yes(&reply) {
             status = Status::Refused;

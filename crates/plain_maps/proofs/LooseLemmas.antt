@@ -3,7 +3,7 @@ use Rattle.std.proofs.Common.{◌≡◌, ℕ, zero, suc, ◌-◌, ◌<◌, List,
 use Rattle.std.proofs.lemmas.Bool.{cases_Bool}
 use Rattle.diagram_terms.specs.declared.place.Step.TheVariants as step
 use Rattle.diagram_terms.specs.declared.place.End.TheVariants as at_end
-use Rattle.diagram_terms.specs.Tree.{Tree, regs, sings}
+use Rattle.diagram_terms.specs.Tree.{Tree, sings}
 use Rattle.diagram_terms.specs.Dimension.{dimension_of, IsArrowTree}
 use Rattle.diagram_terms.specs.Family.{Dia, Arr, reg, sing}
 use Rattle.diagram_terms.specs.Decoded.{dia, arr}

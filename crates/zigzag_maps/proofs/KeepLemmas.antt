@@ -1,26 +1,10 @@
--- What is kept stays right when one more result is kept, and when the store grows.
-use Rattle.std.proofs.Common.{◌≡◌, ℕ, true, ◌&&◌, nat_eq, sym, subst}
-use Rattle.std.proofs.lemmas.Bool.{and_parts, eqb-true}
+-- What is valid stays valid while the store grows.
+use Rattle.std.proofs.Common.{◌≡◌, ℕ, sym, subst}
 use Rattle.diagram_terms.specs.Tree.{Tree}
 use Rattle.hashcons.specs.Contents.{Contents, Grows}
 use Rattle.zigzag_maps.specs.declared.map.Map.{Map}
-use Rattle.zigzag_maps.specs.declared.kept.ValidMaps.{ValidMaps}
 use Rattle.diagram_terms.specs.ValidTrees.{IsArrowBetween, IsValidTree}
 use Rattle.zigzag_maps.specs.Found.{IsValidDiagram, IsValidMap}
-use Rattle.zigzag_maps.specs.Keeps.{same_triple, AreValidMaps}
-
--- ---- equal keys are one key
-
-pub exact_triple : (x y : ℕ × ℕ × ℕ) → same_triple x y ≡ true → x ≡ y
-exact_triple x y h =
-    let p = and_parts (nat_eq x.0 y.0 && nat_eq x.1 y.1) (nat_eq x.2 y.2) h in
-    let q = and_parts (nat_eq x.0 y.0) (nat_eq x.1 y.1) p.0 in
-    let a = eqb-true x.0 y.0 q.0 in
-    let b = eqb-true x.1 y.1 q.1 in
-    let e = eqb-true x.2 y.2 p.1 in
-    λ i. (a i, b i, e i)
-
--- ---- a store that grew
 
 pub valid_diagram-grows : (old new : Contents) (d : ℕ) → Grows old new → IsValidDiagram old d → IsValidDiagram new d
 valid_diagram-grows old new d g h = record {
@@ -40,6 +24,3 @@ valid_map-grows old new m g h = record {
   between = between_same _ _ _ _ _ _ (sym (g.diagram_trees m.source h.source.of_store))
       (sym (g.diagram_trees m.target h.target.of_store)) (sym (g.arrow_trees m.arrow h.arrow)) h.between;
 }
-
-pub maps-grow : (old new : Contents) (found : ValidMaps) → Grows old new → AreValidMaps old found → AreValidMaps new found
-maps-grow old new found g h = record { maps = λ m e. valid_map-grows old new m g (h.maps m e) }

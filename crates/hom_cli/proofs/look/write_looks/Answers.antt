@@ -21,7 +21,6 @@ loop-entry-init g c = record {
   later = omega arith;
   ids = subst (λ (ns : List Node). GathersIds c.put_nodes.new.self c.in_ok-ids.ids.items (length ns) (tree_at ns)) c.as_slice.ensures c.in_ok-ids.ensures.ids;
   store = grown_is_store _ _ c.new-store.ensures c.in_ok-ids.ensures.grows;
-  kept = c.new-kept.ensures c.put_nodes.new.self;
 }
 
 pub diagram_of-diagram-requires : goal.diagram_of-diagram-requires
@@ -128,7 +127,6 @@ loop-entry-preserved g c =
       later = omega (arith, c.in_ok-write_line.ensures.later);
       ids = ids-grow c.loop-entry.store _ c.in_ok-ids.ids.items (length d.nodes) (tree_at d.nodes) c.in_ok-reply.ensures.grows inv.ids;
       store = c.in_ok-reply.ensures.grows.store inv.store;
-      kept = c.in_ok-reply.ensures.kept;
     }
 
 pub returns-clause-ok : goal.returns-clause-ok

@@ -1,5 +1,5 @@
 use Rattle.hashcons.specs.declared.id.AnyId.TheVariants as id
-use Rattle.library_tests.proofs.GrownStores.{grown_is_store}
+use Rattle.hashcons.proofs.EmptyStore.{grown_is_store}
 use Rattle.library_tests.proofs.HeldIds.{id_of_store, diagram_place}
 use Rattle.library_tests.proofs.stored.diagram_faults.Goals as goal
 

@@ -90,6 +90,7 @@ is_identity_once-returns-in_err-keep-clause-kept t c =
     record {
       arrows = made.kept.arrows;
       identities = one_more_found _ IsIdentityTree _ _ _ made.kept.identities c.keep.ensures c.requires.arrow.of_store (made.exact.0 c.if-not-branch.false);
+      passed = made.kept.passed;
     }
 
 pub is_identity_once-returns-clause-kept : goal.is_identity_once-returns-clause-kept
@@ -98,4 +99,5 @@ is_identity_once-returns-clause-kept t c =
     record {
       arrows = made.kept.arrows;
       identities = one_more_found _ IsIdentityTree _ _ _ made.kept.identities c.keep.ensures c.requires.arrow.of_store (made.exact.0 c.if-not-branch.false);
+      passed = made.kept.passed;
     }

@@ -62,6 +62,7 @@ is_plain_once-returns-in_err-keep-clause-kept t c =
     record {
       arrows = one_more_found _ IsPlainTree _ _ _ made.kept.arrows c.keep.ensures c.requires.arrow.of_store (made.exact.0 c.if-not-branch.false);
       identities = made.kept.identities;
+      passed = made.kept.passed;
     }
 
 pub is_plain_once-returns-clause-kept : goal.is_plain_once-returns-clause-kept
@@ -70,4 +71,5 @@ is_plain_once-returns-clause-kept t c =
     record {
       arrows = one_more_found _ IsPlainTree _ _ _ made.kept.arrows c.keep.ensures c.requires.arrow.of_store (made.exact.0 c.if-not-branch.false);
       identities = made.kept.identities;
+      passed = made.kept.passed;
     }

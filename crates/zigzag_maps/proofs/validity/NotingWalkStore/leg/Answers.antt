@@ -1,5 +1,5 @@
 use Rattle.zigzag_maps.proofs.ValidityLemmas.{parts_valid}
-use Rattle.zigzag_maps.proofs.validity.ValidMapsWalkStore.leg.Goals as goal
+use Rattle.zigzag_maps.proofs.validity.NotingWalkStore.leg.Goals as goal
 
 pub fwd_fault-requires-clause-parts : goal.fwd_fault-requires-clause-parts
 fwd_fault-requires-clause-parts c = parts_valid c.args.dim c.requires.above _ c.requires.diagram.shape c.requires.passed

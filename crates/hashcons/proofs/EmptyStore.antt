@@ -1,4 +1,4 @@
--- A store that grew from an empty one.
+-- A store that grew from one with nothing.
 use Rattle.std.proofs.Common.{◌≡◌, sym, subst, arith}
 use Rattle.hashcons.specs.Contents.{Contents, Grows, IsStore, empty}
 
@@ -14,8 +14,7 @@ empty_is_store = record {
   arrow_slices = λ a l. absurd (omega arith);
   diagram_dims = λ d l. absurd (omega arith);
   arrow_dims = λ a l. absurd (omega arith);
-  identities = λ d a e. cc;
-  composites = λ g f h e. cc;
+  notes = record { identities = λ d a e. cc; composites = λ k a e. cc; valid = λ d e. cc; valid_maps = λ k e. cc; normals = λ k m e. cc };
 }
 
 -- and so is one that grew from it
