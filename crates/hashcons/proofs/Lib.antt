@@ -16,3 +16,6 @@ pub mod Completing
 pub mod PlaceLemmas
 pub mod ListedNodes
 pub mod ListEnd
+pub mod Cutting
+pub mod Distinct
+pub mod Blocks

@@ -1,4 +1,6 @@
+pub mod Blocks
 pub mod Contents
+pub mod Counts
 pub mod FoundIds
 pub mod Gathers
 pub mod Ids

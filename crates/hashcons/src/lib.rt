@@ -7,9 +7,11 @@ mod found;
 mod id;
 mod laws;
 mod list;
+mod lists;
 mod node;
 mod read;
 mod store;
+mod view;
 
 pub use found::FoundIds;
 pub use id::{AnyId, ArrowId, DiagramId};
