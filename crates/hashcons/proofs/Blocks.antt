@@ -11,9 +11,9 @@ use Rattle.std.proofs.lemmas.Option.{same_Some}
 use Rattle.smallvec.specs.SmallVec.{SmallVec}
 use Rattle.indexmap.specs.IndexSet.{insert_key, insert_all}
 use Rattle.diagram_terms.specs.Dual.{AreBelow}
-use Rattle.hashcons.specs.Blocks.{blocks_of, distinct_blocks, items_of, same_numbers, blocks_at, joined, lists_in, IsPut, AreBlocksOf, AreInBlocks, PutsList}
+use Rattle.hashcons.specs.Blocks.{blocks_of, distinct_blocks, items_of, same_numbers, blocks_at, joined, lists_in, IsPut, Among, StandOnce, AreBlocksOf, AreInBlocks, PutsList}
 use Rattle.hashcons.proofs.Cutting.{IsBlockOf, blocks_of-more, blocks_join, blocks_have, blocks_length, blocks_none}
-use Rattle.hashcons.proofs.Distinct.{Among, StandOnce, among-head, among-tail, among-left, among-right, slice-append, slice-below, slice-from_get, get-from_slice, slice-push, slice-map, slice-unmap, slice-push_cases, put_is, inserts, inserts_many, insert_all_present, distinct_once, distinct_has, distinct_from, insert_all-append, map-insert_key}
+use Rattle.hashcons.proofs.Distinct.{among-head, among-tail, among-left, among-right, slice-append, slice-below, slice-from_get, get-from_slice, slice-push, slice-map, slice-unmap, slice-push_cases, put_is, inserts, inserts_many, insert_all_present, distinct_once, distinct_has, distinct_from, insert_all-append, map-insert_key}
 
 pub numbers_decide : (xs ys : List ℕ) → Decides (same_numbers xs ys) (xs ≡ ys)
 numbers_decide xs ys = slice_eq-Decides Decides-eqb xs ys (same_numbers xs ys) refl

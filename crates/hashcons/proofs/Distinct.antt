@@ -4,20 +4,11 @@ use Rattle.std.specs.List.{list_any}
 use Rattle.std.specs.Bool.{Decides}
 use Rattle.std.proofs.lemmas.List.{map_push}
 use Rattle.indexmap.specs.IndexSet.{insert_key, insert_all}
-use Rattle.hashcons.specs.Blocks.{IsPut, distinct}
+use Rattle.hashcons.specs.Blocks.{IsPut, Among, StandOnce, distinct}
 
 -- ---- places
 
 module _ {X : Type 0} where
-  -- x stands in the list
-  pub record Among (xs : List X) (x : X) : Type 0 where
-    pub place : ℕ
-    pub there : slice_get xs place ≡ Some x
-
-  -- each element of the list stands at one place
-  abbrev pub StandOnce : List X → Type 0
-  StandOnce xs = (i j : ℕ) (x : X) → slice_get xs i ≡ Some x → slice_get xs j ≡ Some x → i ≡ j
-
   pub get-from_slice : (xs : List X) (i : ℕ) (x d : X) → slice_get xs i ≡ Some x → get_or xs i d ≡ x
   get-from_slice [] i x d e = cc
   get-from_slice (y ∷ xs) zero x d e = cc

@@ -19,3 +19,4 @@ pub mod ListEnd
 pub mod Cutting
 pub mod Distinct
 pub mod Blocks
+pub mod Entries

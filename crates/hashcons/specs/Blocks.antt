@@ -16,6 +16,15 @@ module _ {X : Type 0} where
   abbrev pub blocks_of : List X → List (List X)
   blocks_of xs = cut (length xs) xs
 
+  -- x stands in the list
+  pub record Among (xs : List X) (x : X) : Type 0 where
+    pub place : ℕ
+    pub there : slice_get xs place ≡ Some x
+
+  -- each element of the list stands at one place
+  abbrev pub StandOnce : List X → Type 0
+  StandOnce xs = (i j : ℕ) (x : X) → slice_get xs i ≡ Some x → slice_get xs j ≡ Some x → i ≡ j
+
   -- each of some things once, where it first stands
   abbrev pub distinct : (X → X → Bool) → List X → List X
   distinct same xs = insert_all same [] xs

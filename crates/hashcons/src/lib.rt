@@ -11,6 +11,7 @@ mod lists;
 mod node;
 mod read;
 mod store;
+mod tables;
 mod view;
 
 pub use found::FoundIds;

@@ -51,6 +51,11 @@ impl Lists {
         }
     }
 
+    /// The allocator that the lists take memory from.
+    pub(crate) fn allocator(&self) -> Global {
+        *self.blocks.allocator()
+    }
+
     /// The number of a list, which is put last where it is new.
     pub(crate) fn put(&mut self, items: &[usize]) -> Result<usize, AllocError>
         ensures put { IfOk result (λ number. IsPut self.old self.new items.now number) }
