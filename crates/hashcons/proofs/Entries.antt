@@ -468,3 +468,105 @@ label_decides x y = (
       ((Decides-eqb x.number y.number).1 (ap (λ (z : Label). z.number) e))
       ((Decides-eqb x.dim y.dim).1 (ap (λ (z : Label). z.dim) e)),
 )
+
+numbers_same : (x y : ℕ) → Decides (eqb x y) (x ≡ y)
+numbers_same x y = Decides-eqb x y
+
+pub diagram_entries_decide : (x y : DiagramEntry) → Decides (diagram_entry_eq x y) (x ≡ y)
+diagram_entries_decide (diagram.Zero x) (diagram.Zero y) = (
+  λ h. ap (λ z. diagram.Zero z) ((label_decides x y).0 h),
+  λ e. (label_decides x y).1 (ap zero_of e),
+)
+  where
+    zero_of : DiagramEntry → Label
+    zero_of (diagram.Zero z) = z
+    zero_of (diagram.Zig r s f b) = x
+diagram_entries_decide (diagram.Zero x) (diagram.Zig r s f b) = (λ h. absurd (true≢false (sym h)), λ e. absurd (apart e))
+  where
+    apart : diagram.Zero x ≡ diagram.Zig r s f b → ⊥
+    apart e = cc
+diagram_entries_decide (diagram.Zig r s f b) (diagram.Zero x) = (λ h. absurd (true≢false (sym h)), λ e. absurd (apart e))
+  where
+    apart : diagram.Zig r s f b ≡ diagram.Zero x → ⊥
+    apart e = cc
+diagram_entries_decide (diagram.Zig r s f b) (diagram.Zig r2 s2 f2 b2) = (to, from)
+  where
+    to : diagram_entry_eq (diagram.Zig r s f b) (diagram.Zig r2 s2 f2 b2) ≡ true
+        → diagram.Zig r s f b ≡ diagram.Zig r2 s2 f2 b2
+    to h =
+        let p = and_parts (eqb r r2) (eqb s s2 && (eqb f f2 && eqb b b2)) h in
+        let q = and_parts (eqb s s2) (eqb f f2 && eqb b b2) p.1 in
+        let o = and_parts (eqb f f2) (eqb b b2) q.1 in
+        let i = (numbers_same r r2).0 p.0 in
+        let j = (numbers_same s s2).0 q.0 in
+        let k = (numbers_same f f2).0 o.0 in
+        let m = (numbers_same b b2).0 o.1 in
+        cc
+
+    from : diagram.Zig r s f b ≡ diagram.Zig r2 s2 f2 b2
+        → diagram_entry_eq (diagram.Zig r s f b) (diagram.Zig r2 s2 f2 b2) ≡ true
+    from e =
+        let i : r ≡ r2 = cc in
+        let j : s ≡ s2 = cc in
+        let k : f ≡ f2 = cc in
+        let m : b ≡ b2 = cc in
+        and_from (eqb r r2) (eqb s s2 && (eqb f f2 && eqb b b2)) ((numbers_same r r2).1 i)
+        (and_from (eqb s s2) (eqb f f2 && eqb b b2) ((numbers_same s s2).1 j)
+        (and_from (eqb f f2) (eqb b b2) ((numbers_same f f2).1 k) ((numbers_same b b2).1 m)))
+
+pub arrow_entries_decide : (x y : ArrowEntry) → Decides (arrow_entry_eq x y) (x ≡ y)
+arrow_entries_decide (arrow.Zero x y) (arrow.Zero z w) = (
+  λ h. (let p = and_parts (label_eq x z) (label_eq y w) h in
+      ap₂ (λ a b. arrow.Zero a b) ((label_decides x z).0 p.0) ((label_decides y w).0 p.1)),
+  λ e. and_from (label_eq x z) (label_eq y w) ((label_decides x z).1 (ap from_of e)) ((label_decides y w).1 (ap to_of e)),
+)
+  where
+    from_of : ArrowEntry → Label
+    from_of (arrow.Zero a b) = a
+    from_of (arrow.Zig h r s) = x
+
+    to_of : ArrowEntry → Label
+    to_of (arrow.Zero a b) = b
+    to_of (arrow.Zig h r s) = x
+arrow_entries_decide (arrow.Zero x y) (arrow.Zig h r s) = (λ q. absurd (true≢false (sym q)), λ e. absurd (apart e))
+  where
+    apart : arrow.Zero x y ≡ arrow.Zig h r s → ⊥
+    apart e = cc
+arrow_entries_decide (arrow.Zig h r s) (arrow.Zero x y) = (λ q. absurd (true≢false (sym q)), λ e. absurd (apart e))
+  where
+    apart : arrow.Zig h r s ≡ arrow.Zero x y → ⊥
+    apart e = cc
+arrow_entries_decide (arrow.Zig h r s) (arrow.Zig h2 r2 s2) = (to, from)
+  where
+    to : arrow_entry_eq (arrow.Zig h r s) (arrow.Zig h2 r2 s2) ≡ true → arrow.Zig h r s ≡ arrow.Zig h2 r2 s2
+    to q =
+        let p = and_parts (eqb h h2) (eqb r r2 && eqb s s2) q in
+        let o = and_parts (eqb r r2) (eqb s s2) p.1 in
+        let i = (numbers_same h h2).0 p.0 in
+        let j = (numbers_same r r2).0 o.0 in
+        let k = (numbers_same s s2).0 o.1 in
+        cc
+
+    from : arrow.Zig h r s ≡ arrow.Zig h2 r2 s2 → arrow_entry_eq (arrow.Zig h r s) (arrow.Zig h2 r2 s2) ≡ true
+    from e =
+        let i : h ≡ h2 = cc in
+        let j : r ≡ r2 = cc in
+        let k : s ≡ s2 = cc in
+        and_from (eqb h h2) (eqb r r2 && eqb s s2) ((numbers_same h h2).1 i)
+        (and_from (eqb r r2) (eqb s s2) ((numbers_same r r2).1 j) ((numbers_same s s2).1 k))
+
+-- ---- what is read
+
+-- the entry at a place of a list of views
+pub entry_below : {E V : Type 0} → (f : E → V) (es : List E) (i : ℕ) → i < length (map f es) → i < length es
+entry_below f es i h = subst (λ n. i < n) (length-map es f) h
+
+pub diagram_held : (l : NodeLists) (ds : List DiagramEntry) (xs : List ArrowEntry) (i : ℕ) (e : DiagramEntry) (r s f b : ℕ)
+    → AreHeldBy l ds xs → slice_get ds i ≡ Some e → e ≡ diagram.Zig r s f b
+    → HoldsDiagramLists l r s f b (get_or l.diagrams r []) (get_or l.diagrams s []) (get_or l.arrows f []) (get_or l.arrows b [])
+diagram_held l ds xs i e r s f b held at is = subst (λ g. ShowsDiagram l g (diagram_view l g)) is (held.diagrams i e at)
+
+pub arrow_held : (l : NodeLists) (ds : List DiagramEntry) (xs : List ArrowEntry) (i : ℕ) (e : ArrowEntry) (h r s : ℕ)
+    → AreHeldBy l ds xs → slice_get xs i ≡ Some e → e ≡ arrow.Zig h r s
+    → HoldsArrowLists l h r s (get_or l.heights h []) (get_or l.arrows r []) (get_or l.arrows s [])
+arrow_held l ds xs i e h r s held at is = subst (λ g. ShowsArrow l g (arrow_view l g)) is (held.arrows i e at)

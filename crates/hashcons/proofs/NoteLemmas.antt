@@ -4,8 +4,8 @@ use Rattle.std.proofs.lemmas.Bool.{and_parts, and_from, eq-eqb, cases_Bool, cond
 use Rattle.std.proofs.lemmas.Map.Views.{exact_unsigned_eq}
 use Rattle.std.proofs.lemmas.Option.{same_Some}
 use Rattle.std.specs.Map.{lookup}
-use Rattle.hashcons.specs.declared.node.ArrowNode.{ArrowNode}
-use Rattle.hashcons.specs.declared.node.DiagramNode.{DiagramNode}
+use Rattle.hashcons.specs.declared.view.ArrowView.{ArrowView}
+use Rattle.hashcons.specs.declared.view.DiagramView.{DiagramView}
 use Rattle.hashcons.specs.Contents.{Contents, Notes, same_pair, NotesMore, IsIdentityOf, IsCompositeOf, IsStore, Grows, with_identity, with_composite}
 use Rattle.hashcons.specs.Tables.{contents_of, AreTables}
 use Rattle.hashcons.proofs.ContentsLemmas.{KeepsTrees, identity-stays, composite-stays}
@@ -59,7 +59,7 @@ keeps-identity c ns = record { diagrams = λ d h. h; arrows = λ a h. h; diagram
 keeps-composite : (c : Contents) (ns : List ((ℕ × ℕ) × ℕ)) → KeepsTrees c (with_composite c ns)
 keeps-composite c ns = record { diagrams = λ d h. h; arrows = λ a h. h; diagram_trees = λ d h. refl; arrow_trees = λ a h. refl }
 
-module _ (arrows : List ArrowNode) (diagrams : List DiagramNode) (notes : Notes) (tables : AreTables arrows diagrams notes) where
+module _ (arrows : List ArrowView) (diagrams : List DiagramView) (notes : Notes) (tables : AreTables arrows diagrams notes) where
   abbrev here : Contents
   here = contents_of arrows diagrams notes
 
