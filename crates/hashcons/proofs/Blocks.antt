@@ -1,11 +1,11 @@
 -- Tables of blocks and of lists: what putting a list does to them, and what is read from them.
-use Rattle.std.proofs.Common.{◌≡◌, ◌≢◌, ℕ, ◌<◌, ◌≤◌, ◌+◌, ◌*◌, ◌^◌, ◌/◌, ◌%◌, ◌-◌, Bool, true, List, [], ◌∷◌, ◌++◌, eqb, length, map, take, drop, get_or, slice_get, Some, refl, sym, ap, subst, ◌∙◌, arith, ◌⊎◌, inl, inr, zero, suc, append_assoc, append-nil, take_at, length-append, length-take, get_or-take, take_all, take-append-drop, ap₂, min}
+use Rattle.std.proofs.Common.{◌≡◌, ◌≢◌, ℕ, ◌<◌, ◌≤◌, ◌+◌, ◌*◌, ◌^◌, ◌/◌, ◌%◌, Bool, true, List, [], ◌∷◌, ◌++◌, length, take, drop, get_or, slice_get, Some, refl, sym, ap, subst, ◌∙◌, arith, ◌⊎◌, inl, inr, zero, suc, append_assoc, append-nil, take_at, length-append, length-take, get_or-take, take_all, take-append-drop, ap₂, min}
 use Rattle.std.specs.Prelude.{slice_index}
 use Rattle.std.specs.List.{flat_map}
 use Rattle.std.specs.Bool.{Decides}
 use Rattle.std.proofs.lemmas.Bool.Decides.{Decides-eqb}
 use Rattle.std.proofs.lemmas.Slice.Eq.{slice_eq-Decides}
-use Rattle.std.proofs.lemmas.List.{map_push, map-append, length-map, get_or_append_left, take_min, drop_min, take-map, take-append-le}
+use Rattle.std.proofs.lemmas.List.{map_push, length-map, get_or_append_left, take_min, drop_min, take-map, take-append-le}
 use Rattle.hashcons.proofs.TableLemmas.{below_head, below_tail, AreBelow-more}
 use Rattle.std.proofs.lemmas.Option.{same_Some}
 use Rattle.smallvec.specs.SmallVec.{SmallVec}
@@ -13,7 +13,7 @@ use Rattle.indexmap.specs.IndexSet.{insert_key, insert_all}
 use Rattle.diagram_terms.specs.Dual.{AreBelow}
 use Rattle.hashcons.specs.Blocks.{blocks_of, distinct_blocks, items_of, same_numbers, blocks_at, joined, lists_in, IsPut, Among, StandOnce, AreBlocksOf, AreInBlocks, PutsList}
 use Rattle.hashcons.proofs.Cutting.{IsBlockOf, blocks_of-more, blocks_join, blocks_have, blocks_length, blocks_none}
-use Rattle.hashcons.proofs.Distinct.{among-head, among-tail, among-left, among-right, slice-append, slice-below, slice-from_get, get-from_slice, slice-push, slice-map, slice-unmap, slice-push_cases, put_is, inserts, inserts_many, insert_all_present, distinct_once, distinct_has, distinct_from, insert_all-append, map-insert_key}
+use Rattle.hashcons.proofs.Distinct.{among-head, among-tail, among-left, among-right, slice-below, slice-from_get, get-from_slice, slice-map, slice-unmap, slice-push_cases, put_is, inserts, inserts_many, insert_all_present, distinct_once, distinct_has, insert_all-append, map-insert_key}
 
 pub numbers_decide : (xs ys : List ℕ) → Decides (same_numbers xs ys) (xs ≡ ys)
 numbers_decide xs ys = slice_eq-Decides Decides-eqb xs ys (same_numbers xs ys) refl
@@ -206,8 +206,8 @@ module _ (bs0 bs1 nss0 nss1 : List (List ℕ)) (xs : List ℕ) (place : ℕ) (ta
       let at : slice_get (lists_in bs0 nss0) place ≡ Some xs = ap (λ ls. slice_get ls place) (sym same) ∙ there in
       let held : (b : List ℕ) → Among (blocks_of xs) b → Among bs0 b =
       λ b a. subst (λ bs. Among bs b) (sym tables.blocks)
-          (distinct_has same_numbers numbers_decide (flat_map blocks_of (lists_in bs0 nss0)) b
-          (among-flat blocks_of (lists_in bs0 nss0) place xs b at a))
+      (distinct_has same_numbers numbers_decide (flat_map blocks_of (lists_in bs0 nss0)) b
+      (among-flat blocks_of (lists_in bs0 nss0) place xs b at a))
       in
       let none : bs1 ≡ bs0 = p.blocks ∙ insert_all_present same_numbers numbers_decide bs0 (blocks_of xs) held in
       record {

@@ -1,5 +1,5 @@
 -- Lists in which each element stands once: what putting one element, or many, does to them.
-use Rattle.std.proofs.Common.{◌≡◌, ◌≢◌, ℕ, ◌<◌, ◌≤◌, ◌+◌, Bool, true, false, ◌||◌, List, [], ◌∷◌, ◌++◌, length, map, take, get_or, slice_get, Some, refl, sym, ap, subst, ◌∙◌, arith, ◌⊎◌, inl, inr, true≢false, zero, suc, if◌then◌else◌, append_assoc, append-nil, take_at}
+use Rattle.std.proofs.Common.{◌≡◌, ◌≢◌, ℕ, ◌<◌, Bool, true, false, ◌||◌, List, [], ◌∷◌, ◌++◌, length, map, get_or, slice_get, Some, refl, sym, ap, subst, ◌∙◌, arith, ◌⊎◌, inl, inr, true≢false, zero, suc, if◌then◌else◌, append_assoc, append-nil}
 use Rattle.std.specs.List.{list_any}
 use Rattle.std.specs.Bool.{Decides}
 use Rattle.std.proofs.lemmas.List.{map_push}
@@ -142,8 +142,10 @@ module _ {X : Type 0} (same : X → X → Bool) (decides : (x y : X) → Decides
       by true e = record { there = there; adds = inl (keys ∙ ap (λ b. if b then old else old ++ x ∷ []) e) }
       by false e = record {
         there = there;
-        adds = inr (keys ∙ ap (λ b. if b then old else old ++ x ∷ []) e,
-          λ j h. true≢false (sym (any_at (same x) old j x h ((decides x x).1 refl)) ∙ e));
+        adds = inr (
+          keys ∙ ap (λ b. if b then old else old ++ x ∷ []) e,
+          λ j h. true≢false (sym (any_at (same x) old j x h ((decides x x).1 refl)) ∙ e),
+        );
       }
 
   pub insert_present : (ks : List X) (x : X) → Among ks x → insert_key same ks x ≡ ks

@@ -1,5 +1,5 @@
 -- What nodes that are kept by the numbers of their lists stand for, and what putting one does.
-use Rattle.std.proofs.Common.{◌≡◌, ◌≢◌, ℕ, ◌<◌, ◌≤◌, ◌+◌, Bool, true, false, true≢false, ◌&&◌, List, [], ◌∷◌, ◌++◌, eqb, length, map, take, get_or, slice_get, Some, refl, sym, ap, ap₂, subst, ◌∙◌, arith, ◌⊎◌, inl, inr, zero, suc, Result, Ok, Err, IfOk, OnErr, append_assoc, append-nil, take_at}
+use Rattle.std.proofs.Common.{◌≡◌, ◌≢◌, ℕ, ◌<◌, Bool, true, true≢false, ◌&&◌, List, [], ◌∷◌, ◌++◌, eqb, length, map, take, get_or, slice_get, Some, refl, sym, ap, ap₂, subst, ◌∙◌, ◌⊎◌, inl, inr, zero, suc, Result, Ok, Err, IfOk, OnErr, append_assoc, append-nil, take_at}
 use Rattle.std.specs.List.{flat_map}
 use Rattle.std.specs.Bool.{Decides}
 use Rattle.std.proofs.lemmas.Bool.{and_parts, and_from}
@@ -26,9 +26,8 @@ use Rattle.hashcons.specs.declared.node.ArrowNode.{ArrowNode}
 use Rattle.hashcons.specs.declared.node.ArrowNode.TheVariants as arrow_node
 use Rattle.hashcons.specs.Nodes.{viewed_diagram, viewed_arrow}
 use Rattle.hashcons.specs.Blocks.{IsPut, Among, StandOnce}
-use Rattle.hashcons.specs.Counts.{AreCounts}
 use Rattle.hashcons.specs.Entries.{AreHeldBy, Gains, GainsLists, HaveCounts, PutsDiagramEntry, PutsArrowEntry, HoldsDiagramLists, HoldsArrowLists, ShowsDiagram, ShowsArrow, first_lists, diagram_view, arrow_view, diagram_parts, leg_parts, slice_parts, height_parts}
-use Rattle.hashcons.proofs.Distinct.{among-head, among-tail, among-left, among-right, slice-append, slice-below, slice-from_get, get-from_slice, slice-push, slice-push_cases, slice-map, slice-unmap}
+use Rattle.hashcons.proofs.Distinct.{among-head, among-tail, among-left, among-right, slice-append, get-from_slice, slice-push_cases, slice-map, slice-unmap}
 
 -- ---- what is gained
 
@@ -194,10 +193,12 @@ put_through view0 view1 keys0 keys1 e v i same inj is p = record {
         → (map view1 keys1 ≡ map view0 keys0)
         ⊎ ((map view1 keys1 ≡ map view0 keys0 ++ v ∷ []) × ((j : ℕ) → slice_get (map view0 keys0) j ≢ Some v))
     by (inl q) = inl (ap (map view1) q ∙ same)
-    by (inr q) = inr (ap (map view1) q.0 ∙ map_push view1 keys0 e ∙ ap₂ (λ vs w. vs ++ w ∷ []) same is,
+    by (inr q) = inr (
+      ap (map view1) q.0 ∙ map_push view1 keys0 e ∙ ap₂ (λ vs w. vs ++ w ∷ []) same is,
       λ j h.
           let w = slice-unmap view1 keys0 j v (ap (λ vs. slice_get vs j) same ∙ h) in
-          q.1 j (w.there ∙ ap Some (inj j w.item w.there w.is)))
+          q.1 j (w.there ∙ ap Some (inj j w.item w.there w.is)),
+    )
 
 map-same : {E V : Type 0} → (f g : E → V) (es : List E) → ((k : ℕ) (e : E) → slice_get es k ≡ Some e → f e ≡ g e)
     → map f es ≡ map g es

@@ -1,23 +1,11 @@
 -- Nodes as a store shows them, told by the trees that they describe.
-use Rattle.std.proofs.Common.{◌≡◌, ℕ, ◌≤◌, Bool, true, true≢false, ◌&&◌, List, length, refl, sym, ap, ap₂, ◌∙◌, arith}
-use Rattle.std.specs.Bool.{Decides}
-use Rattle.std.specs.Cmp.Lexicographic.{pointwise}
-use Rattle.std.specs.Prelude.{eqb}
-use Rattle.std.proofs.lemmas.Bool.{and_parts, and_from}
-use Rattle.std.proofs.lemmas.Bool.Decides.{Decides-eqb}
-use Rattle.std.proofs.lemmas.Slice.Eq.{slice_eq-Decides}
-use Rattle.diagram_terms.specs.declared.label.Label.{Label}
-use Rattle.diagram_terms.specs.contracts.label.LabelPartialEq.TheImpl as label_impl
-use Rattle.diagram_terms.specs.Tree.{Tree, point, zig, ends, zag, kind, label_at, from_at, to_at, regs, sings, fwds, bwds, heights, label_at-point, from_at-ends, to_at-ends, heights-zag, regs-zag, sings-zag, regs-zig, sings-zig, fwds-zig, bwds-zig, kind-point, kind-zig, kind-ends, kind-zag}
+use Rattle.std.proofs.Common.{◌≡◌, ℕ, ◌≤◌, List, length, refl, sym, ap, ap₂, ◌∙◌, arith}
+use Rattle.diagram_terms.specs.Tree.{Tree, zig, zag, kind, label_at, from_at, to_at, regs, sings, fwds, bwds, heights, label_at-point, from_at-ends, to_at-ends, heights-zag, regs-zag, sings-zag, regs-zig, sings-zig, fwds-zig, bwds-zig, kind-point, kind-zig, kind-ends, kind-zag}
 use Rattle.diagram_terms.specs.Nodes.{picked}
 use Rattle.hashcons.specs.declared.view.ArrowView.{ArrowView}
 use Rattle.hashcons.specs.declared.view.ArrowView.TheVariants as a
 use Rattle.hashcons.specs.declared.view.DiagramView.{DiagramView}
 use Rattle.hashcons.specs.declared.view.DiagramView.TheVariants as d
-use Rattle.hashcons.specs.contracts.id.ArrowIdPartialEq.TheImpl as arrow_id_impl
-use Rattle.hashcons.specs.contracts.id.DiagramIdPartialEq.TheImpl as diagram_id_impl
-use Rattle.hashcons.specs.contracts.node.ArrowViewPartialEq.TheImpl as arrow_impl
-use Rattle.hashcons.specs.contracts.node.DiagramViewPartialEq.TheImpl as diagram_impl
 use Rattle.hashcons.specs.Contents.{IsOnce}
 use Rattle.hashcons.specs.Nodes.{tree_of_arrow, tree_of_diagram, IsArrowOver, IsDiagramOver}
 use Rattle.hashcons.proofs.TableLemmas.{picked-inj, AgreeBelow, picked-agree, AreBelow-more}

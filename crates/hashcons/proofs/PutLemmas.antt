@@ -1,5 +1,5 @@
 -- What the tables say of an id, and what `put_arrow` and `put_diagram` do to them.
-use Rattle.std.proofs.Common.{◌≡◌, ◌≢◌, ℕ, ◌<◌, ◌≤◌, ◌+◌, Bool, true, false, List, [], ◌∷◌, ◌++◌, length, get_or, slice_get, Some, refl, sym, ap, subst, ◌∙◌, arith, ◌⊎◌, inl, inr}
+use Rattle.std.proofs.Common.{◌≡◌, ◌≢◌, ℕ, ◌<◌, ◌≤◌, ◌+◌, List, [], ◌∷◌, ◌++◌, length, get_or, slice_get, Some, refl, sym, ap, subst, ◌∙◌, arith, ◌⊎◌, inl, inr}
 use Rattle.std.proofs.lemmas.List.{length_push}
 use Rattle.diagram_terms.specs.Tree.{Tree, nil}
 use Rattle.diagram_terms.specs.Dimension.{IsDiagramTree, IsArrowTree}
@@ -7,7 +7,7 @@ use Rattle.hashcons.specs.declared.view.ArrowView.{ArrowView}
 use Rattle.hashcons.specs.declared.view.DiagramView.{DiagramView}
 use Rattle.hashcons.specs.Blocks.{IsPut}
 use Rattle.hashcons.specs.Contents.{Contents, Notes, diagram_at, arrow_at, Grows, IsStore, AddsArrow, AddsDiagram, with_arrow, with_diagram}
-use Rattle.hashcons.specs.Nodes.{tree_of_arrow, tree_of_diagram, IsArrowOver, IsDiagramOver, described_arrow, described_diagram, HasArrowsOf, HasChildrenOf}
+use Rattle.hashcons.specs.Nodes.{tree_of_arrow, tree_of_diagram, IsArrowOver, IsDiagramOver}
 use Rattle.hashcons.specs.Tables.{trees_from, AreGrounded, arrow_trees, diagram_trees, contents_of, AreTables}
 use Rattle.hashcons.proofs.TableLemmas.{AgreeBelow, length-trees_from, trees_from-push, trees_from-same, tree-reads, tree-new, AreGrounded-at, AreGrounded-push, AreGrounded-wider, slice_get-below, at-push}
 use Rattle.hashcons.proofs.NodeLemmas.{arrow-told, diagram-told, arrow-local, diagram-local, arrow-wider, diagram-wider, diagram-arrows, diagram-more_arrows}
@@ -221,3 +221,42 @@ module _ (arrows : List ArrowView) (before : List DiagramView) (notes : Notes) (
           → PutsDiagram arrows before after notes n
       by (inl e) = subst (λ ns. PutsDiagram arrows before ns notes n) (sym e) diagram_there
       by (inr e) = subst (λ ns. PutsDiagram arrows before ns notes n) (sym e.0) (diagram_absent e.1)
+
+-- ---- what a store is after a node was put
+
+pub record StoresArrow (c : Contents) (arrows : List ArrowView) (diagrams : List DiagramView) (notes : Notes) (n : ArrowView) (place : ℕ) : Type 0 where
+  pub tables : AreTables arrows diagrams notes
+  pub grows : Grows c (contents_of arrows diagrams notes)
+  pub adds : AddsArrow c (contents_of arrows diagrams notes) (tree_of_arrow c.arrows n)
+  pub held : Holds (arrow_trees arrows) place (tree_of_arrow c.arrows n)
+
+pub stores_arrow : (c : Contents) (before : List ArrowView) (diagrams : List DiagramView) (notes : Notes) (n : ArrowView)
+    → contents_of before diagrams notes ≡ c → AreTables before diagrams notes
+    → IsArrowOver (length c.arrows) n → IsArrowTree (tree_of_arrow c.arrows n) → (after : List ArrowView) (place : ℕ)
+    → IsPut before after n place → (same : List DiagramView) → same ≡ diagrams → StoresArrow c after same notes n place
+stores_arrow c before diagrams notes n is tables children shape after place put same e =
+    subst (λ ds. StoresArrow c after ds notes n place) (sym e)
+    (subst (λ s. StoresArrow s after diagrams notes n place) is (
+    let p = puts_arrow before diagrams notes n tables
+    (subst (λ s. IsArrowOver (length s.arrows) n) (sym is) children)
+    (subst (λ s. IsArrowTree (tree_of_arrow s.arrows n)) (sym is) shape) after place put in
+    record { tables = p.tables; grows = p.grows; adds = p.adds; held = p.held place put.there }))
+
+pub record StoresDiagram (c : Contents) (arrows : List ArrowView) (diagrams : List DiagramView) (notes : Notes) (n : DiagramView) (place : ℕ) : Type 0 where
+  pub tables : AreTables arrows diagrams notes
+  pub grows : Grows c (contents_of arrows diagrams notes)
+  pub adds : AddsDiagram c (contents_of arrows diagrams notes) (tree_of_diagram c.arrows c.diagrams n)
+  pub held : Holds (diagram_trees arrows diagrams) place (tree_of_diagram c.arrows c.diagrams n)
+
+pub stores_diagram : (c : Contents) (arrows : List ArrowView) (before : List DiagramView) (notes : Notes) (n : DiagramView)
+    → contents_of arrows before notes ≡ c → AreTables arrows before notes
+    → IsDiagramOver (length c.arrows) (length c.diagrams) n → IsDiagramTree (tree_of_diagram c.arrows c.diagrams n)
+    → (after : List DiagramView) (place : ℕ)
+    → IsPut before after n place → (same : List ArrowView) → same ≡ arrows → StoresDiagram c same after notes n place
+stores_diagram c arrows before notes n is tables children shape after place put same e =
+    subst (λ xs. StoresDiagram c xs after notes n place) (sym e)
+    (subst (λ s. StoresDiagram s arrows after notes n place) is (
+    let p = puts_diagram arrows before notes n tables
+    (subst (λ s. IsDiagramOver (length s.arrows) (length s.diagrams) n) (sym is) children)
+    (subst (λ s. IsDiagramTree (tree_of_diagram s.arrows s.diagrams n)) (sym is) shape) after place put in
+    record { tables = p.tables; grows = p.grows; adds = p.adds; held = p.held place put.there }))

@@ -1,6 +1,5 @@
 -- What a table of nodes stands for: its trees by place, and what a new node adds.
-use Rattle.std.proofs.Common.{◌≡◌, ◌≢◌, ℕ, ◌<◌, ◌≤◌, ◌+◌, Bool, true, false, ◌||◌, List, [], ◌∷◌, ◌++◌, length, get_or, slice_get, Some, refl, sym, ap, subst, ◌∙◌, arith, ◌⊎◌, inl, inr, true≢false, zero, suc}
-use Rattle.std.specs.List.{list_any}
+use Rattle.std.proofs.Common.{◌≡◌, ◌≢◌, ℕ, ◌<◌, ◌≤◌, ◌+◌, List, [], ◌∷◌, ◌++◌, length, get_or, slice_get, Some, refl, sym, ap, subst, ◌∙◌, arith, ◌⊎◌, inl, inr, zero, suc}
 use Rattle.std.proofs.lemmas.List.{length_push, get_or_append_left, get_or_at, get_or-map, length-map}
 use Rattle.diagram_terms.specs.Tree.{Tree, nil}
 use Rattle.diagram_terms.specs.Dual.{AreBelow}

@@ -1,6 +1,7 @@
 -- What a node that was viewed says of its first slice.
 use Rattle.std.proofs.Common.{◌≡◌, ℕ, ◌<◌, List, length, get_or, sym, ap, subst, ◌∙◌, arith, suc}
-use Rattle.std.proofs.lemmas.List.{get_or_read}
+use Rattle.std.specs.Prelude.{slice_index}
+use Rattle.std.proofs.lemmas.List.{get_or_read, get_or_default}
 use Rattle.diagram_terms.specs.Tree.{Tree, nil, regs, regs-zig, regs-zag}
 use Rattle.diagram_terms.specs.Dimension.{dimension_of}
 use Rattle.diagram_terms.specs.Nodes.{picked}
@@ -20,6 +21,10 @@ pub record FirstIs (ts : List Tree) (t : Tree) (is : List ℕ) : Type 0 where
   pub count : length (regs t) ≡ length is
   pub of_store : (x : ℕ) → x ≡ get_or is 0 x → x < length ts
   pub dimension : (x : ℕ) → x ≡ get_or is 0 x → dimension_of t ≡ suc (dimension_of (get_or ts x nil))
+
+-- an entry that was read, at itself as the default
+pub entry_read : (is : List ℕ) (i x : ℕ) → i < length is → x ≡ slice_index is i → x ≡ get_or is i x
+entry_read is i x l e = e ∙ get_or_default is i 0 x l
 
 first_is : (ts : List Tree) (t : Tree) (is : List ℕ) → ((j : ℕ) → j < length is → get_or is j 0 < length ts)
     → regs t ≡ picked ts is → HasFirst t (picked ts is) → FirstIs ts t is

@@ -1,7 +1,7 @@
 use Rattle.std.proofs.Common.{rules, ◌≡◌, true, take, slice_get, Some, ◌∙◌, ap}
 use Rattle.smallvec.specs.SmallVec.{SmallVec}
 use Rattle.hashcons.specs.Blocks.{items_of}
-use Rattle.hashcons.proofs.Blocks.{PutsBlocks, puts_one, vectors_eq, vectors_keys, vector_at}
+use Rattle.hashcons.proofs.Blocks.{puts_one, vectors_eq, vectors_keys, vector_at}
 use Rattle.hashcons.proofs.lists.put_blocks.Goals as goal
 
 pub loop-rest-preserved : goal.loop-rest-preserved

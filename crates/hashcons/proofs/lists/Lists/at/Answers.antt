@@ -1,4 +1,4 @@
-use Rattle.std.proofs.Common.{◌≡◌, ◌<◌, ◌/◌, List, ℕ, [], length, get_or, slice_get, Some, sym, ap, subst, ◌∙◌}
+use Rattle.std.proofs.Common.{◌<◌, ◌/◌, List, ℕ, [], length, get_or, sym, subst}
 use Rattle.hashcons.proofs.Blocks.{entry_number, number_below, entry_within, entry_is}
 use Rattle.hashcons.proofs.lists.Lists.at.Goals as goal
 

@@ -1,5 +1,4 @@
-use Rattle.std.proofs.Common.{◌≡◌, ◌<◌, ◌-◌, length, get_or, suc, sym, ◌∙◌, arith}
-use Rattle.hashcons.specs.Blocks.{items_of, lists_in}
+use Rattle.std.proofs.Common.{◌≡◌, ◌<◌, ◌-◌, length, suc, sym, ◌∙◌, arith}
 use Rattle.hashcons.proofs.Blocks.{empty_list, number_below, list_length, list_fits, last_fits}
 use Rattle.hashcons.proofs.lists.Lists.len.Goals as goal
 

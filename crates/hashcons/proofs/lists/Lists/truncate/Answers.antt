@@ -1,6 +1,6 @@
 use Rattle.std.proofs.Common.{◌≡◌, ℕ, List, length, take, sym, subst, ◌∙◌, ap, ap₂}
 use Rattle.std.proofs.lemmas.List.{take-map}
-use Rattle.hashcons.specs.Blocks.{AreInBlocks, items_of, distinct_blocks, lists_in}
+use Rattle.hashcons.specs.Blocks.{items_of, distinct_blocks, lists_in}
 use Rattle.hashcons.proofs.Blocks.{kept_tables, kept_is}
 use Rattle.hashcons.proofs.lists.Lists.truncate.Goals as goal
 

@@ -1,8 +1,4 @@
-use Rattle.std.proofs.Common.{[], ◌∷◌, sym, subst}
-use Rattle.hashcons.specs.Blocks.{Among}
-use Rattle.hashcons.specs.Entries.{Gains, ShowsDiagram}
-use Rattle.hashcons.specs.Nodes.{viewed_diagram}
-use Rattle.hashcons.proofs.Distinct.{among-head, among-tail}
+use Rattle.std.proofs.Common.{[], ◌∷◌}
 use Rattle.hashcons.proofs.Entries.{gains-none, gains-trans, gained, gains_diagram, among_first, among_second}
 use Rattle.hashcons.proofs.tables.NodeLists.put_diagram.Goals as goal
 
