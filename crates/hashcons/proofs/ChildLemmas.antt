@@ -7,10 +7,10 @@ use Rattle.diagram_terms.specs.Shape.{IsDiagram, IsArrow, reg_at}
 use Rattle.diagram_terms.specs.Completion.{IsAmongFirst}
 use Rattle.diagram_terms.specs.Dimension.{dimension_of, dimension_of-ends, IsDiagramTree, IsArrowTree}
 use Rattle.diagram_terms.proofs.Dimensions.{diagram_dimension, arrow_dimension}
-use Rattle.hashcons.specs.declared.node.ArrowNode.{ArrowNode}
-use Rattle.hashcons.specs.declared.node.ArrowNode.TheVariants as a
-use Rattle.hashcons.specs.declared.node.DiagramNode.{DiagramNode}
-use Rattle.hashcons.specs.declared.node.DiagramNode.TheVariants as d
+use Rattle.hashcons.specs.declared.view.ArrowView.{ArrowView}
+use Rattle.hashcons.specs.declared.view.ArrowView.TheVariants as a
+use Rattle.hashcons.specs.declared.view.DiagramView.{DiagramView}
+use Rattle.hashcons.specs.declared.view.DiagramView.TheVariants as d
 use Rattle.hashcons.specs.Contents.{HasSlicesAmong, HasLegsAmong, HasArrowsAmong}
 use Rattle.hashcons.specs.Nodes.{tree_of_arrow, tree_of_diagram, IsArrowOver, IsDiagramOver}
 use Rattle.hashcons.proofs.TableLemmas.{length-picked, get_or-picked}
@@ -27,15 +27,15 @@ picked_among ts is us e b j l =
       is = sym (ap (λ vs. get_or vs j nil) e ∙ get_or-picked ts is j 0 m);
     }
 
-pub arrow-among : (ts : List Tree) (n : ArrowNode) → IsArrowOver (length ts) n
+pub arrow-among : (ts : List Tree) (n : ArrowView) → IsArrowOver (length ts) n
     → HasArrowsAmong (length ts) ts (tree_of_arrow ts n)
 arrow-among ts (a.Zero x y) b = record {
   regs = λ above j l. absurd (omega (arith, dimension_of-ends x y));
   sings = λ above i l. absurd (omega (arith, dimension_of-ends x y));
 }
 arrow-among ts (a.Zig hs rs ss) b = record {
-  regs = λ above. picked_among ts rs.items _ (regs-zag _ _ _) b.regs;
-  sings = λ above. picked_among ts ss.items _ (sings-zag _ _ _) b.sings;
+  regs = λ above. picked_among ts rs _ (regs-zag _ _ _) b.regs;
+  sings = λ above. picked_among ts ss _ (sings-zag _ _ _) b.sings;
 }
 
 no_parts : (us : List Tree) → length us ≡ 0 → (P : ℕ → Type 0) → (j : ℕ) → j < length us → P j
@@ -57,26 +57,26 @@ bwds-point : (x : _) → length (bwds (point x)) ≡ 0
 unfolding bwds point
 bwds-point x = refl
 
-pub slices-among : (arrows ts : List Tree) (n : DiagramNode) → IsDiagramOver (length arrows) (length ts) n
+pub slices-among : (arrows ts : List Tree) (n : DiagramView) → IsDiagramOver (length arrows) (length ts) n
     → HasSlicesAmong (length ts) ts (tree_of_diagram arrows ts n)
 slices-among arrows ts (d.Zero x) b = record {
   regs = no_parts _ (regs-point x) _;
   sings = no_parts _ (sings-point x) _;
 }
 slices-among arrows ts (d.Zig rs ss fs bs) b = record {
-  regs = picked_among ts rs.items _ (regs-zig _ _ _ _) b.regs;
-  sings = picked_among ts ss.items _ (sings-zig _ _ _ _) b.sings;
+  regs = picked_among ts rs _ (regs-zig _ _ _ _) b.regs;
+  sings = picked_among ts ss _ (sings-zig _ _ _ _) b.sings;
 }
 
-pub legs-among : (arrows ts : List Tree) (n : DiagramNode) → IsDiagramOver (length arrows) (length ts) n
+pub legs-among : (arrows ts : List Tree) (n : DiagramView) → IsDiagramOver (length arrows) (length ts) n
     → HasLegsAmong (length arrows) arrows (tree_of_diagram arrows ts n)
 legs-among arrows ts (d.Zero x) b = record {
   fwds = no_parts _ (fwds-point x) _;
   bwds = no_parts _ (bwds-point x) _;
 }
 legs-among arrows ts (d.Zig rs ss fs bs) b = record {
-  fwds = picked_among arrows fs.items _ (fwds-zig _ _ _ _) b.fwds;
-  bwds = picked_among arrows bs.items _ (bwds-zig _ _ _ _) b.bwds;
+  fwds = picked_among arrows fs _ (fwds-zig _ _ _ _) b.fwds;
+  bwds = picked_among arrows bs _ (bwds-zig _ _ _ _) b.bwds;
 }
 
 -- a tree has one dimension more than its first slice, which stands before it

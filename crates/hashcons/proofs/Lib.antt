@@ -19,3 +19,7 @@ pub mod Completing
 pub mod PlaceLemmas
 pub mod ListedNodes
 pub mod ListEnd
+pub mod Cutting
+pub mod Distinct
+pub mod Blocks
+pub mod Entries

@@ -2,8 +2,8 @@
 use Rattle.std.proofs.Common.{◌≡◌, ℕ, Bool, false, true≢false, nat_eq, cond, List, Some, sym, subst, ap, ◌∙◌}
 use Rattle.std.specs.Map.{lookup}
 use Rattle.std.specs.Prelude.{IsSome, is_some}
-use Rattle.hashcons.specs.declared.node.ArrowNode.{ArrowNode}
-use Rattle.hashcons.specs.declared.node.DiagramNode.{DiagramNode}
+use Rattle.hashcons.specs.declared.view.ArrowView.{ArrowView}
+use Rattle.hashcons.specs.declared.view.DiagramView.{DiagramView}
 use Rattle.hashcons.specs.declared.notes.KnownNormal.{KnownNormal}
 use Rattle.hashcons.specs.declared.notes.NormalKey.{NormalKey}
 use Rattle.hashcons.specs.declared.notes.NoteTables.{NoteTables}
@@ -14,7 +14,7 @@ use Rattle.hashcons.specs.Tables.{contents_of, AreTables}
 use Rattle.hashcons.proofs.NoteLemmas.{exact_number, exact_pair, exact_triple, exact_key, same_number-refl, same_pair-refl, same_key-refl, more_from, notes-all, all-stay, one_noted, noted_so, members-all, members-stay, one_identity, one_composite, Renotes, renotes}
 use Rattle.hashcons.proofs.NoteTableLemmas.{key_test, normals-known, normals-updates}
 
-module _ (arrows : List ArrowNode) (diagrams : List DiagramNode) (notes : Notes) (tables : AreTables arrows diagrams notes) where
+module _ (arrows : List ArrowView) (diagrams : List DiagramView) (notes : Notes) (tables : AreTables arrows diagrams notes) where
   abbrev here : Contents
   here = contents_of arrows diagrams notes
 
@@ -131,13 +131,13 @@ module _ (arrows : List ArrowNode) (diagrams : List DiagramNode) (notes : Notes)
       })
 
 -- a normal form that is noted for a key with none
-pub record NormalNoted (arrows : List ArrowNode) (diagrams : List DiagramNode) (old : Notes) (ns : List (Key × Normal)) (k : Key) (m : Normal) : Type 0 where
+pub record NormalNoted (arrows : List ArrowView) (diagrams : List DiagramView) (old : Notes) (ns : List (Key × Normal)) (k : Key) (m : Normal) : Type 0 where
   pub none : is_some (lookup (same_key k) old.normals) ≡ false
   pub more : NotesMore same_key old.normals ns k m
   pub noted : IsSome (lookup (same_key k) ns)
   pub renoted : Renotes arrows diagrams old (record old { normals = ns })
 
-module _ (arrows : List ArrowNode) (diagrams : List DiagramNode) (table : NoteTables) (tables : AreTables arrows diagrams (notes_of table)) (k : NormalKey) (m : KnownNormal) where
+module _ (arrows : List ArrowView) (diagrams : List DiagramView) (table : NoteTables) (tables : AreTables arrows diagrams (notes_of table)) (k : NormalKey) (m : KnownNormal) where
   pub normal_known : (known : Bool) → known ≡ is_some (lookup (key_test k) table.normals.entries)
       → is_some (lookup (same_key (key_of k)) (notes_of table).normals) ≡ known
   normal_known known e = normals-known k table.normals.entries ∙ sym e

@@ -10,8 +10,8 @@ use Rattle.std.specs.List.{list_any}
 use Rattle.std.specs.Map.{lookup, set_value}
 use Rattle.std.specs.Option.{option_or}
 use Rattle.std.specs.Prelude.{IfSome, IsSome, MatchOption, is_some}
-use Rattle.hashcons.specs.declared.node.ArrowNode.{ArrowNode}
-use Rattle.hashcons.specs.declared.node.DiagramNode.{DiagramNode}
+use Rattle.hashcons.specs.declared.view.ArrowView.{ArrowView}
+use Rattle.hashcons.specs.declared.view.DiagramView.{DiagramView}
 use Rattle.hashcons.specs.Contents.{Contents, IsIdentityOf, IsCompositeOf, IsStore, AreNotes, Grows, with_notes}
 use Rattle.hashcons.specs.Notes.{Notes, KeepsNotes, Key, NotesMore, HasMore, same_pair, same_triple, same_key}
 use Rattle.hashcons.specs.Tables.{contents_of, AreTables}
@@ -184,11 +184,11 @@ keeps-notes : (c : Contents) (ns : Notes) → KeepsTrees c (with_notes c ns)
 keeps-notes c ns = record { diagrams = λ d h. h; arrows = λ a h. h; diagram_trees = λ d h. refl; arrow_trees = λ a h. refl }
 
 -- the store with these notes is one, and grew
-pub record Renotes (arrows : List ArrowNode) (diagrams : List DiagramNode) (old new : Notes) : Type 0 where
+pub record Renotes (arrows : List ArrowView) (diagrams : List DiagramView) (old new : Notes) : Type 0 where
   pub tables : AreTables arrows diagrams new
   pub grows : Grows (contents_of arrows diagrams old) (contents_of arrows diagrams new)
 
-module _ (arrows : List ArrowNode) (diagrams : List DiagramNode) (old new : Notes) (tables : AreTables arrows diagrams old) where
+module _ (arrows : List ArrowView) (diagrams : List DiagramView) (old new : Notes) (tables : AreTables arrows diagrams old) where
   abbrev here : Contents
   here = contents_of arrows diagrams old
 

@@ -1,37 +1,37 @@
 -- What the tables say of an id, and what `put_arrow` and `put_diagram` do to them.
-use Rattle.std.proofs.Common.{◌≡◌, ◌≢◌, ℕ, ◌<◌, ◌≤◌, ◌+◌, Bool, true, false, List, [], ◌∷◌, ◌++◌, length, get_or, slice_get, Some, refl, sym, ap, subst, ◌∙◌, arith, inl, inr, if◌then◌else◌}
-use Rattle.std.specs.List.{list_any}
+use Rattle.std.proofs.Common.{◌≡◌, ◌≢◌, ℕ, ◌<◌, ◌≤◌, ◌+◌, List, [], ◌∷◌, ◌++◌, length, get_or, slice_get, Some, refl, sym, ap, subst, ◌∙◌, arith, ◌⊎◌, inl, inr}
 use Rattle.std.proofs.lemmas.List.{length_push}
 use Rattle.diagram_terms.specs.Tree.{Tree, nil}
 use Rattle.diagram_terms.specs.Dimension.{IsDiagramTree, IsArrowTree}
-use Rattle.hashcons.specs.declared.node.ArrowNode.{ArrowNode}
-use Rattle.hashcons.specs.declared.node.DiagramNode.{DiagramNode}
+use Rattle.hashcons.specs.declared.view.ArrowView.{ArrowView}
+use Rattle.hashcons.specs.declared.view.DiagramView.{DiagramView}
+use Rattle.hashcons.specs.Blocks.{IsPut}
 use Rattle.hashcons.specs.Contents.{Contents, Notes, diagram_at, arrow_at, Grows, IsStore, AddsArrow, AddsDiagram, with_arrow, with_diagram}
-use Rattle.hashcons.specs.Nodes.{tree_of_arrow, tree_of_diagram, IsArrowOver, IsDiagramOver, described_arrow, described_diagram, HasArrowsOf, HasChildrenOf}
+use Rattle.hashcons.specs.Nodes.{tree_of_arrow, tree_of_diagram, IsArrowOver, IsDiagramOver}
 use Rattle.hashcons.specs.Tables.{trees_from, AreGrounded, arrow_trees, diagram_trees, contents_of, AreTables}
 use Rattle.hashcons.proofs.TableLemmas.{AgreeBelow, length-trees_from, trees_from-push, trees_from-same, tree-reads, tree-new, AreGrounded-at, AreGrounded-push, AreGrounded-wider, slice_get-below, at-push}
-use Rattle.hashcons.proofs.NodeLemmas.{arrow_eq, diagram_eq, arrow-alike, diagram-alike, arrow-told, diagram-told, arrow-local, diagram-local, arrow-wider, diagram-wider, diagram-arrows, diagram-more_arrows}
+use Rattle.hashcons.proofs.NodeLemmas.{arrow-told, diagram-told, arrow-local, diagram-local, arrow-wider, diagram-wider, diagram-arrows, diagram-more_arrows}
 use Rattle.hashcons.proofs.ContentsLemmas.{Grows-refl, Grows-push_arrow, Grows-push_diagram, IsStore-push_arrow, IsStore-push_diagram}
 use Rattle.hashcons.proofs.ChildLemmas.{arrow-among, slices-among, legs-among, arrow-low, diagram-low}
 
-pub length-arrow_trees : (arrows : List ArrowNode) → length (arrow_trees arrows) ≡ length arrows
+pub length-arrow_trees : (arrows : List ArrowView) → length (arrow_trees arrows) ≡ length arrows
 length-arrow_trees arrows = omega (arith, length-trees_from tree_of_arrow [] arrows)
 
-pub length-diagram_trees : (arrows : List ArrowNode) (diagrams : List DiagramNode)
+pub length-diagram_trees : (arrows : List ArrowView) (diagrams : List DiagramView)
     → length (diagram_trees arrows diagrams) ≡ length diagrams
 length-diagram_trees arrows diagrams = omega (arith, length-trees_from (tree_of_diagram (arrow_trees arrows)) [] diagrams)
 
 -- the node k stands at i: it describes the tree of i, and its children are of the store
-pub record ReadsArrow (c : Contents) (i : ℕ) (k : ArrowNode) : Type 0 where
-  pub tree : described_arrow c k ≡ arrow_at c i
-  pub children : HasArrowsOf c k
+pub record ReadsArrow (c : Contents) (i : ℕ) (k : ArrowView) : Type 0 where
+  pub tree : tree_of_arrow c.arrows k ≡ arrow_at c i
+  pub children : IsArrowOver (length c.arrows) k
 
-pub record ReadsDiagram (c : Contents) (i : ℕ) (k : DiagramNode) : Type 0 where
-  pub tree : described_diagram c k ≡ diagram_at c i
-  pub children : HasChildrenOf c k
+pub record ReadsDiagram (c : Contents) (i : ℕ) (k : DiagramView) : Type 0 where
+  pub tree : tree_of_diagram c.arrows c.diagrams k ≡ diagram_at c i
+  pub children : IsDiagramOver (length c.arrows) (length c.diagrams) k
 
-module _ (arrows : List ArrowNode) (diagrams : List DiagramNode) (notes : Notes) (tables : AreTables arrows diagrams notes) where
-  pub reads_arrow : (i : ℕ) (k : ArrowNode) → slice_get arrows i ≡ Some k → ReadsArrow (contents_of arrows diagrams notes) i k
+module _ (arrows : List ArrowView) (diagrams : List DiagramView) (notes : Notes) (tables : AreTables arrows diagrams notes) where
+  pub reads_arrow : (i : ℕ) (k : ArrowView) → slice_get arrows i ≡ Some k → ReadsArrow (contents_of arrows diagrams notes) i k
   reads_arrow i k at =
       let l = length-arrow_trees arrows in
       let b = slice_get-below arrows i k at in
@@ -41,7 +41,7 @@ module _ (arrows : List ArrowNode) (diagrams : List DiagramNode) (notes : Notes)
             (AreGrounded-at IsArrowOver 0 arrows i k tables.arrows_grounded at);
       }
 
-  pub reads_diagram : (i : ℕ) (k : DiagramNode) → slice_get diagrams i ≡ Some k
+  pub reads_diagram : (i : ℕ) (k : DiagramView) → slice_get diagrams i ≡ Some k
       → ReadsDiagram (contents_of arrows diagrams notes) i k
   reads_diagram i k at =
       let us = arrow_trees arrows in
@@ -61,29 +61,23 @@ pub record Holds (ts : List Tree) (i : ℕ) (t : Tree) : Type 0 where
   pub of_list : i < length ts
   pub tree : get_or ts i nil ≡ t
 
--- a node of a table that is equal to n has the tree of n
-holds-equal : {N : Type 0} (f : List Tree → N → Tree) (B : ℕ → N → Type 0)
-    (local : (k : ℕ) (ts us : List Tree) (n : N) → B k n → AgreeBelow k ts us → f ts n ≡ f us n)
-    (eq : N → N → Bool) (alike : (ts : List Tree) (m n : N) → eq m n ≡ true → f ts m ≡ f ts n) (ns : List N) (n : N)
-    → AreGrounded B 0 ns
-    → (i : ℕ) (k : N) → slice_get ns i ≡ Some k → eq n k ≡ true → Holds (trees_from f [] ns) i (f (trees_from f [] ns) n)
-holds-equal f B local eq alike ns n g i k at same =
+-- n stands in the table at the place of its tree
+holds : {N : Type 0} (f : List Tree → N → Tree) (B : ℕ → N → Type 0)
+    (local : (k : ℕ) (ts us : List Tree) (n : N) → B k n → AgreeBelow k ts us → f ts n ≡ f us n) (ns : List N) (n : N)
+    → AreGrounded B 0 ns → (i : ℕ) → slice_get ns i ≡ Some n → Holds (trees_from f [] ns) i (f (trees_from f [] ns) n)
+holds f B local ns n g i at =
     let l = length-trees_from f [] ns in
-    let b = slice_get-below ns i k at in
-    record {
-      of_list = omega arith;
-      tree = tree-reads f B local ns i k g at ∙ sym (alike (trees_from f [] ns) n k same);
-    }
+    let b = slice_get-below ns i n at in
+    record { of_list = omega arith; tree = tree-reads f B local ns i n g at }
 
 -- the tables after a node was put, and where it stands
-pub record PutsArrow (before after : List ArrowNode) (diagrams : List DiagramNode) (notes : Notes) (n : ArrowNode) : Type 0 where
+pub record PutsArrow (before after : List ArrowView) (diagrams : List DiagramView) (notes : Notes) (n : ArrowView) : Type 0 where
   pub tables : AreTables after diagrams notes
   pub grows : Grows (contents_of before diagrams notes) (contents_of after diagrams notes)
   pub adds : AddsArrow (contents_of before diagrams notes) (contents_of after diagrams notes) (tree_of_arrow (arrow_trees before) n)
-  pub held : (i : ℕ) (k : ArrowNode) → slice_get after i ≡ Some k → arrow_eq n k ≡ true
-      → Holds (arrow_trees after) i (tree_of_arrow (arrow_trees before) n)
+  pub held : (i : ℕ) → slice_get after i ≡ Some n → Holds (arrow_trees after) i (tree_of_arrow (arrow_trees before) n)
 
-module _ (before : List ArrowNode) (diagrams : List DiagramNode) (notes : Notes) (n : ArrowNode) (tables : AreTables before diagrams notes)
+module _ (before : List ArrowView) (diagrams : List DiagramView) (notes : Notes) (n : ArrowView) (tables : AreTables before diagrams notes)
     (children : IsArrowOver (length (arrow_trees before)) n)
     (shape : IsArrowTree (tree_of_arrow (arrow_trees before) n)) where
   arrow_there : PutsArrow before before diagrams notes n
@@ -91,10 +85,10 @@ module _ (before : List ArrowNode) (diagrams : List DiagramNode) (notes : Notes)
     tables = tables;
     grows = Grows-refl (contents_of before diagrams notes);
     adds = inl refl;
-    held = holds-equal tree_of_arrow IsArrowOver arrow-local arrow_eq arrow-alike before n tables.arrows_grounded;
+    held = holds tree_of_arrow IsArrowOver arrow-local before n tables.arrows_grounded;
   }
 
-  arrow_absent : list_any (arrow_eq n) before ≡ false → PutsArrow before (before ++ n ∷ []) diagrams notes n
+  arrow_absent : ((i : ℕ) → slice_get before i ≢ Some n) → PutsArrow before (before ++ n ∷ []) diagrams notes n
   arrow_absent none =
       let ts = arrow_trees before in
       let t = tree_of_arrow ts n in
@@ -107,7 +101,7 @@ module _ (before : List ArrowNode) (diagrams : List DiagramNode) (notes : Notes)
       let among = arrow-among ts n children in
       let low = arrow-low ts t shape among tables.store.arrow_dims in
       let new : (i : ℕ) → i < length ts → get_or ts i nil ≢ t =
-      tree-new tree_of_arrow IsArrowOver arrow-local arrow_eq before n
+      tree-new tree_of_arrow IsArrowOver arrow-local before n
       (λ m over same. arrow-told ts tables.store.arrows_once n m children over same)
       arrow-wider tables.arrows_grounded none
       in
@@ -124,7 +118,7 @@ module _ (before : List ArrowNode) (diagrams : List DiagramNode) (notes : Notes)
       let whole : with_arrow (contents_of before diagrams notes) t ≡ contents_of after diagrams notes =
       λ i. record { diagrams = same i; arrows = sym pushed i; notes = notes }
       in
-      let held = holds-equal tree_of_arrow IsArrowOver arrow-local arrow_eq arrow-alike after n grounded in
+      let held = holds tree_of_arrow IsArrowOver arrow-local after n grounded in
       let grown = IsStore-push_arrow (contents_of before diagrams notes) t tables.store shape among low new in
       record {
         tables = record {
@@ -136,8 +130,8 @@ module _ (before : List ArrowNode) (diagrams : List DiagramNode) (notes : Notes)
         };
         grows = subst (Grows (contents_of before diagrams notes)) whole (Grows-push_arrow (contents_of before diagrams notes) t grown);
         adds = inr (sym whole);
-        held = λ i k at is.
-            let h = held i k at is in
+        held = λ i at.
+            let h = held i at in
             record {
               of_list = h.of_list;
               tree = h.tree ∙ sym
@@ -145,25 +139,22 @@ module _ (before : List ArrowNode) (diagrams : List DiagramNode) (notes : Notes)
             };
       }
 
-  pub puts_arrow : (after : List ArrowNode) → after ≡ (if list_any (arrow_eq n) before then before else before ++ n ∷ [])
-      → PutsArrow before after diagrams notes n
-  puts_arrow after keys = by (list_any (arrow_eq n) before) refl
+  pub puts_arrow : (after : List ArrowView) (place : ℕ) → IsPut before after n place → PutsArrow before after diagrams notes n
+  puts_arrow after place p = by p.adds
     where
-      by : (b : Bool) → list_any (arrow_eq n) before ≡ b → PutsArrow before after diagrams notes n
-      by true e = subst (λ ns. PutsArrow before ns diagrams notes n)
-          (sym (keys ∙ ap (λ b. if b then before else before ++ n ∷ []) e)) arrow_there
-      by false e = subst (λ ns. PutsArrow before ns diagrams notes n)
-          (sym (keys ∙ ap (λ b. if b then before else before ++ n ∷ []) e)) (arrow_absent e)
+      by : (after ≡ before) ⊎ ((after ≡ before ++ n ∷ []) × ((i : ℕ) → slice_get before i ≢ Some n))
+          → PutsArrow before after diagrams notes n
+      by (inl e) = subst (λ ns. PutsArrow before ns diagrams notes n) (sym e) arrow_there
+      by (inr e) = subst (λ ns. PutsArrow before ns diagrams notes n) (sym e.0) (arrow_absent e.1)
 
-pub record PutsDiagram (arrows : List ArrowNode) (before after : List DiagramNode) (notes : Notes) (n : DiagramNode) : Type 0 where
+pub record PutsDiagram (arrows : List ArrowView) (before after : List DiagramView) (notes : Notes) (n : DiagramView) : Type 0 where
   pub tables : AreTables arrows after notes
   pub grows : Grows (contents_of arrows before notes) (contents_of arrows after notes)
   pub adds : AddsDiagram (contents_of arrows before notes) (contents_of arrows after notes)
       (tree_of_diagram (arrow_trees arrows) (diagram_trees arrows before) n)
-  pub held : (i : ℕ) (k : DiagramNode) → slice_get after i ≡ Some k → diagram_eq n k ≡ true
-      → Holds (diagram_trees arrows after) i (tree_of_diagram (arrow_trees arrows) (diagram_trees arrows before) n)
+  pub held : (i : ℕ) → slice_get after i ≡ Some n → Holds (diagram_trees arrows after) i (tree_of_diagram (arrow_trees arrows) (diagram_trees arrows before) n)
 
-module _ (arrows : List ArrowNode) (before : List DiagramNode) (notes : Notes) (n : DiagramNode) (tables : AreTables arrows before notes)
+module _ (arrows : List ArrowView) (before : List DiagramView) (notes : Notes) (n : DiagramView) (tables : AreTables arrows before notes)
     (children : IsDiagramOver (length (arrow_trees arrows)) (length (diagram_trees arrows before)) n)
     (shape : IsDiagramTree (tree_of_diagram (arrow_trees arrows) (diagram_trees arrows before) n)) where
   diagram_there : PutsDiagram arrows before before notes n
@@ -172,12 +163,11 @@ module _ (arrows : List ArrowNode) (before : List DiagramNode) (notes : Notes) (
     grows = Grows-refl (contents_of arrows before notes);
     adds = inl refl;
     held =
-        holds-equal (tree_of_diagram (arrow_trees arrows)) (IsDiagramOver (length (arrow_trees arrows)))
-        (diagram-local (arrow_trees arrows))
-        diagram_eq (diagram-alike (arrow_trees arrows)) before n tables.diagrams_grounded;
+        holds (tree_of_diagram (arrow_trees arrows)) (IsDiagramOver (length (arrow_trees arrows)))
+        (diagram-local (arrow_trees arrows)) before n tables.diagrams_grounded;
   }
 
-  diagram_absent : list_any (diagram_eq n) before ≡ false → PutsDiagram arrows before (before ++ n ∷ []) notes n
+  diagram_absent : ((i : ℕ) → slice_get before i ≢ Some n) → PutsDiagram arrows before (before ++ n ∷ []) notes n
   diagram_absent none =
       let us = arrow_trees arrows in
       let f = tree_of_diagram us in
@@ -194,7 +184,7 @@ module _ (arrows : List ArrowNode) (before : List DiagramNode) (notes : Notes) (
       let legs = legs-among us ts n children in
       let low = diagram-low ts t shape slices tables.store.diagram_dims in
       let new : (i : ℕ) → i < length ts → get_or ts i nil ≢ t =
-      tree-new f over (diagram-local us) diagram_eq before n
+      tree-new f over (diagram-local us) before n
       (λ m b same. diagram-told us ts tables.store.arrows_once tables.store.diagrams_once n m children b same)
       (diagram-wider (length us)) tables.diagrams_grounded none
       in
@@ -204,7 +194,7 @@ module _ (arrows : List ArrowNode) (before : List DiagramNode) (notes : Notes) (
       let whole : with_diagram (contents_of arrows before notes) t ≡ contents_of arrows after notes =
       λ i. record { diagrams = sym pushed i; arrows = us; notes = notes }
       in
-      let held = holds-equal f over (diagram-local us) diagram_eq (diagram-alike us) after n grounded in
+      let held = holds f over (diagram-local us) after n grounded in
       let grown = IsStore-push_diagram (contents_of arrows before notes) t tables.store shape slices legs low new in
       record {
         tables = record {
@@ -214,8 +204,8 @@ module _ (arrows : List ArrowNode) (before : List DiagramNode) (notes : Notes) (
         };
         grows = subst (Grows (contents_of arrows before notes)) whole (Grows-push_diagram (contents_of arrows before notes) t grown);
         adds = inr (sym whole);
-        held = λ i k at is.
-            let h = held i k at is in
+        held = λ i at.
+            let h = held i at in
             record {
               of_list = h.of_list;
               tree = h.tree ∙ sym
@@ -223,12 +213,50 @@ module _ (arrows : List ArrowNode) (before : List DiagramNode) (notes : Notes) (
             };
       }
 
-  pub puts_diagram : (after : List DiagramNode)
-      → after ≡ (if list_any (diagram_eq n) before then before else before ++ n ∷ []) → PutsDiagram arrows before after notes n
-  puts_diagram after keys = by (list_any (diagram_eq n) before) refl
+  pub puts_diagram : (after : List DiagramView) (place : ℕ) → IsPut before after n place
+      → PutsDiagram arrows before after notes n
+  puts_diagram after place p = by p.adds
     where
-      by : (b : Bool) → list_any (diagram_eq n) before ≡ b → PutsDiagram arrows before after notes n
-      by true e = subst (λ ns. PutsDiagram arrows before ns notes n)
-          (sym (keys ∙ ap (λ b. if b then before else before ++ n ∷ []) e)) diagram_there
-      by false e = subst (λ ns. PutsDiagram arrows before ns notes n)
-          (sym (keys ∙ ap (λ b. if b then before else before ++ n ∷ []) e)) (diagram_absent e)
+      by : (after ≡ before) ⊎ ((after ≡ before ++ n ∷ []) × ((i : ℕ) → slice_get before i ≢ Some n))
+          → PutsDiagram arrows before after notes n
+      by (inl e) = subst (λ ns. PutsDiagram arrows before ns notes n) (sym e) diagram_there
+      by (inr e) = subst (λ ns. PutsDiagram arrows before ns notes n) (sym e.0) (diagram_absent e.1)
+
+-- ---- what a store is after a node was put
+
+pub record StoresArrow (c : Contents) (arrows : List ArrowView) (diagrams : List DiagramView) (notes : Notes) (n : ArrowView) (place : ℕ) : Type 0 where
+  pub tables : AreTables arrows diagrams notes
+  pub grows : Grows c (contents_of arrows diagrams notes)
+  pub adds : AddsArrow c (contents_of arrows diagrams notes) (tree_of_arrow c.arrows n)
+  pub held : Holds (arrow_trees arrows) place (tree_of_arrow c.arrows n)
+
+pub stores_arrow : (c : Contents) (before : List ArrowView) (diagrams : List DiagramView) (notes : Notes) (n : ArrowView)
+    → contents_of before diagrams notes ≡ c → AreTables before diagrams notes
+    → IsArrowOver (length c.arrows) n → IsArrowTree (tree_of_arrow c.arrows n) → (after : List ArrowView) (place : ℕ)
+    → IsPut before after n place → (same : List DiagramView) → same ≡ diagrams → StoresArrow c after same notes n place
+stores_arrow c before diagrams notes n is tables children shape after place put same e =
+    subst (λ ds. StoresArrow c after ds notes n place) (sym e)
+    (subst (λ s. StoresArrow s after diagrams notes n place) is (
+    let p = puts_arrow before diagrams notes n tables
+    (subst (λ s. IsArrowOver (length s.arrows) n) (sym is) children)
+    (subst (λ s. IsArrowTree (tree_of_arrow s.arrows n)) (sym is) shape) after place put in
+    record { tables = p.tables; grows = p.grows; adds = p.adds; held = p.held place put.there }))
+
+pub record StoresDiagram (c : Contents) (arrows : List ArrowView) (diagrams : List DiagramView) (notes : Notes) (n : DiagramView) (place : ℕ) : Type 0 where
+  pub tables : AreTables arrows diagrams notes
+  pub grows : Grows c (contents_of arrows diagrams notes)
+  pub adds : AddsDiagram c (contents_of arrows diagrams notes) (tree_of_diagram c.arrows c.diagrams n)
+  pub held : Holds (diagram_trees arrows diagrams) place (tree_of_diagram c.arrows c.diagrams n)
+
+pub stores_diagram : (c : Contents) (arrows : List ArrowView) (before : List DiagramView) (notes : Notes) (n : DiagramView)
+    → contents_of arrows before notes ≡ c → AreTables arrows before notes
+    → IsDiagramOver (length c.arrows) (length c.diagrams) n → IsDiagramTree (tree_of_diagram c.arrows c.diagrams n)
+    → (after : List DiagramView) (place : ℕ)
+    → IsPut before after n place → (same : List ArrowView) → same ≡ arrows → StoresDiagram c same after notes n place
+stores_diagram c arrows before notes n is tables children shape after place put same e =
+    subst (λ xs. StoresDiagram c xs after notes n place) (sym e)
+    (subst (λ s. StoresDiagram s arrows after notes n place) is (
+    let p = puts_diagram arrows before notes n tables
+    (subst (λ s. IsDiagramOver (length s.arrows) (length s.diagrams) n) (sym is) children)
+    (subst (λ s. IsDiagramTree (tree_of_diagram s.arrows s.diagrams n)) (sym is) shape) after place put in
+    record { tables = p.tables; grows = p.grows; adds = p.adds; held = p.held place put.there }))

@@ -1,6 +1,5 @@
 -- What a table of nodes stands for: its trees by place, and what a new node adds.
-use Rattle.std.proofs.Common.{◌≡◌, ◌≢◌, ℕ, ◌<◌, ◌≤◌, ◌+◌, Bool, true, false, ◌||◌, List, [], ◌∷◌, ◌++◌, length, get_or, slice_get, Some, refl, sym, ap, subst, ◌∙◌, arith, ◌⊎◌, inl, inr, true≢false, zero, suc}
-use Rattle.std.specs.List.{list_any}
+use Rattle.std.proofs.Common.{◌≡◌, ◌≢◌, ℕ, ◌<◌, ◌≤◌, ◌+◌, List, [], ◌∷◌, ◌++◌, length, get_or, slice_get, Some, refl, sym, ap, subst, ◌∙◌, arith, ◌⊎◌, inl, inr, zero, suc}
 use Rattle.std.proofs.lemmas.List.{length_push, get_or_append_left, get_or_at, get_or-map, length-map}
 use Rattle.diagram_terms.specs.Tree.{Tree, nil}
 use Rattle.diagram_terms.specs.Dual.{AreBelow}
@@ -87,16 +86,6 @@ module _ {N : Type 0} where
   slice_get-below (m ∷ ns) zero n e = omega arith
   slice_get-below (m ∷ ns) (suc i) n e = let h = slice_get-below ns i n e in omega arith
 
-  list_any-at : (p : N → Bool) (ns : List N) (i : ℕ) (n : N) → list_any p ns ≡ false → slice_get ns i ≡ Some n → p n ≡ false
-  list_any-at p [] i n a e = cc
-  list_any-at p (m ∷ ns) i n a e = by (p m) refl i e (list_any-at p ns)
-    where
-      by : (b : Bool) → p m ≡ b → (i : ℕ) → slice_get (m ∷ ns) i ≡ Some n
-          → ((i : ℕ) (n : N) → list_any p ns ≡ false → slice_get ns i ≡ Some n → p n ≡ false) → p n ≡ false
-      by true q i e rest = absurd (true≢false (sym (ap (λ c. c || list_any p ns) q) ∙ a))
-      by false q zero e rest = let f : m ≡ n = cc in sym (ap p f) ∙ q
-      by false q (suc i) e rest = rest i n (sym (ap (λ c. c || list_any p ns) q) ∙ a) e
-
   module _ (B : ℕ → N → Type 0) where
     pub AreGrounded-push : (k : ℕ) (ns : List N) (n : N) → AreGrounded B k ns → B (k + length ns) n
         → AreGrounded B k (ns ++ n ∷ [])
@@ -182,14 +171,13 @@ module _ {N : Type 0} where
           let z : 0 + i ≡ i = omega arith in
           sym (ap (λ p. get_or (trees_from f [] ns) p nil) z) ∙ trees_from-reads [] ns i n g e
 
-      -- a node that the test finds nowhere has a tree of its own
-      pub tree-new : (eq : N → N → Bool) (ns : List N) (n : N)
-          → ((m : N) → B (length (trees_from f [] ns)) m → f (trees_from f [] ns) m ≡ f (trees_from f [] ns) n → eq n
-          m ≡ true)
+      -- a node that stands nowhere has a tree of its own
+      pub tree-new : (ns : List N) (n : N)
+          → ((m : N) → B (length (trees_from f [] ns)) m → f (trees_from f [] ns) m ≡ f (trees_from f [] ns) n → n ≡ m)
           → ((k l : ℕ) (m : N) → k ≤ l → B k m → B l m)
-          → AreGrounded B 0 ns → list_any (eq n) ns ≡ false
+          → AreGrounded B 0 ns → ((i : ℕ) → slice_get ns i ≢ Some n)
           → (i : ℕ) → i < length (trees_from f [] ns) → get_or (trees_from f [] ns) i nil ≢ f (trees_from f [] ns) n
-      tree-new eq ns n told wider g a i h e =
+      tree-new ns n told wider g absent i h e =
           let l = length-trees_from [] ns in
           let there : i < length ns = omega arith in
           let p = element ns i there in
@@ -197,4 +185,4 @@ module _ {N : Type 0} where
           let b = AreGrounded-at B 0 ns i p.0 g p.1 in
           let w : 0 + i ≤ length (trees_from f [] ns) = omega arith in
           let same = told p.0 (wider (0 + i) (length (trees_from f [] ns)) p.0 w b) (sym r ∙ e) in
-          true≢false (sym same ∙ list_any-at (eq n) ns i p.0 a p.1)
+          absent i (p.1 ∙ ap Some (sym same))

@@ -1,15 +1,16 @@
 -- What a node that was viewed says of its first slice.
 use Rattle.std.proofs.Common.{◌≡◌, ℕ, ◌<◌, List, length, get_or, sym, ap, subst, ◌∙◌, arith, suc}
-use Rattle.std.proofs.lemmas.List.{get_or_read}
+use Rattle.std.specs.Prelude.{slice_index}
+use Rattle.std.proofs.lemmas.List.{get_or_read, get_or_default}
 use Rattle.diagram_terms.specs.Tree.{Tree, nil, regs, regs-zig, regs-zag}
 use Rattle.diagram_terms.specs.Dimension.{dimension_of}
 use Rattle.diagram_terms.specs.Nodes.{picked}
-use Rattle.hashcons.specs.declared.node.ArrowNode.{ArrowNode}
-use Rattle.hashcons.specs.declared.node.ArrowNode.TheVariants as a
-use Rattle.hashcons.specs.declared.node.DiagramNode.{DiagramNode}
-use Rattle.hashcons.specs.declared.node.DiagramNode.TheVariants as d
+use Rattle.hashcons.specs.declared.view.ArrowView.{ArrowView}
+use Rattle.hashcons.specs.declared.view.ArrowView.TheVariants as a
+use Rattle.hashcons.specs.declared.view.DiagramView.{DiagramView}
+use Rattle.hashcons.specs.declared.view.DiagramView.TheVariants as d
 use Rattle.hashcons.specs.Contents.{Contents, IsStore, IsDiagramOf, IsArrowOf, diagram_at, arrow_at}
-use Rattle.hashcons.specs.Nodes.{described_arrow, described_diagram, HasArrowsOf, HasChildrenOf}
+use Rattle.hashcons.specs.Nodes.{tree_of_arrow, tree_of_diagram, IsArrowOver, IsDiagramOver}
 use Rattle.hashcons.proofs.TableLemmas.{length-picked, get_or-picked}
 use Rattle.hashcons.proofs.PickLemmas.{HasFirst, zig_first, zag_first}
 
@@ -20,6 +21,10 @@ pub record FirstIs (ts : List Tree) (t : Tree) (is : List ℕ) : Type 0 where
   pub count : length (regs t) ≡ length is
   pub of_store : (x : ℕ) → x ≡ get_or is 0 x → x < length ts
   pub dimension : (x : ℕ) → x ≡ get_or is 0 x → dimension_of t ≡ suc (dimension_of (get_or ts x nil))
+
+-- an entry that was read, at itself as the default
+pub entry_read : (is : List ℕ) (i x : ℕ) → i < length is → x ≡ slice_index is i → x ≡ get_or is i x
+entry_read is i x l e = e ∙ get_or_default is i 0 x l
 
 first_is : (ts : List Tree) (t : Tree) (is : List ℕ) → ((j : ℕ) → j < length is → get_or is j 0 < length ts)
     → regs t ≡ picked ts is → HasFirst t (picked ts is) → FirstIs ts t is
@@ -34,22 +39,22 @@ first_is ts t is b r h =
           (get_or-picked ts is 0 0 n ∙ ap (λ i. get_or ts i nil) (sym (get_or_read is 0 x n e 0)));
     }
 
-pub first_slice : (c : Contents) (i : ℕ) (n : DiagramNode) (rs ss fs bs : _) → IsStore c → IsDiagramOf c i
-    → described_diagram c n ≡ diagram_at c i → HasChildrenOf c n
-    → n ≡ d.Zig rs ss fs bs → FirstIs c.diagrams (diagram_at c i) rs.items
+pub first_slice : (c : Contents) (i : ℕ) (n : DiagramView) (rs ss fs bs : _) → IsStore c → IsDiagramOf c i
+    → tree_of_diagram c.arrows c.diagrams n ≡ diagram_at c i → IsDiagramOver (length c.arrows) (length c.diagrams) n
+    → n ≡ d.Zig rs ss fs bs → FirstIs c.diagrams (diagram_at c i) rs
 first_slice c i n rs ss fs bs store of_store tree children e =
-    let over : HasChildrenOf c (d.Zig rs ss fs bs) = subst (HasChildrenOf c) e children in
-    let described = sym (ap (described_diagram c) e) ∙ tree in
-    first_is c.diagrams (diagram_at c i) rs.items over.regs.below (sym (ap regs described) ∙ regs-zig _ _ _ _)
-    (zig_first (diagram_at c i) (picked c.diagrams rs.items) (picked c.diagrams ss.items) (picked c.arrows fs.items)
-    (picked c.arrows bs.items) described (store.diagrams i of_store))
+    let over : IsDiagramOver (length c.arrows) (length c.diagrams) (d.Zig rs ss fs bs) = subst (IsDiagramOver (length c.arrows) (length c.diagrams)) e children in
+    let described = sym (ap (tree_of_diagram c.arrows c.diagrams) e) ∙ tree in
+    first_is c.diagrams (diagram_at c i) rs over.regs.below (sym (ap regs described) ∙ regs-zig _ _ _ _)
+    (zig_first (diagram_at c i) (picked c.diagrams rs) (picked c.diagrams ss) (picked c.arrows fs)
+    (picked c.arrows bs) described (store.diagrams i of_store))
 
-pub first_arrow : (c : Contents) (i : ℕ) (n : ArrowNode) (hs rs ss : _) → IsStore c → IsArrowOf c i
-    → described_arrow c n ≡ arrow_at c i → HasArrowsOf c n
-    → n ≡ a.Zig hs rs ss → FirstIs c.arrows (arrow_at c i) rs.items
+pub first_arrow : (c : Contents) (i : ℕ) (n : ArrowView) (hs rs ss : _) → IsStore c → IsArrowOf c i
+    → tree_of_arrow c.arrows n ≡ arrow_at c i → IsArrowOver (length c.arrows) n
+    → n ≡ a.Zig hs rs ss → FirstIs c.arrows (arrow_at c i) rs
 first_arrow c i n hs rs ss store of_store tree children e =
-    let over : HasArrowsOf c (a.Zig hs rs ss) = subst (HasArrowsOf c) e children in
-    let described = sym (ap (described_arrow c) e) ∙ tree in
-    first_is c.arrows (arrow_at c i) rs.items over.regs.below (sym (ap regs described) ∙ regs-zag _ _ _)
-    (zag_first (arrow_at c i) hs.items (picked c.arrows rs.items) (picked c.arrows ss.items) described
+    let over : IsArrowOver (length c.arrows) (a.Zig hs rs ss) = subst (IsArrowOver (length c.arrows)) e children in
+    let described = sym (ap (tree_of_arrow c.arrows) e) ∙ tree in
+    first_is c.arrows (arrow_at c i) rs over.regs.below (sym (ap regs described) ∙ regs-zag _ _ _)
+    (zag_first (arrow_at c i) hs (picked c.arrows rs) (picked c.arrows ss) described
     (store.arrows i of_store))

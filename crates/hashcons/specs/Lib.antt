@@ -1,4 +1,7 @@
+pub mod Blocks
 pub mod Contents
+pub mod Counts
+pub mod Entries
 pub mod FoundIds
 pub mod Gathers
 pub mod Ids

@@ -7,11 +7,14 @@ mod found;
 mod id;
 mod laws;
 mod list;
+mod lists;
 mod node;
 mod notes;
 mod noting;
 mod read;
 mod store;
+mod tables;
+mod view;
 
 pub use found::FoundIds;
 pub use id::{AnyId, ArrowId, DiagramId};

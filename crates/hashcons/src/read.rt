@@ -6,8 +6,8 @@ ghost use Rattle.hashcons.specs.Contents.{Contents, IsStore, IsDiagramOf, IsArro
 ghost use Rattle.hashcons.specs.Ids.{IsOf, HasDimension, tree_of};
 
 use crate::id::{AnyId, ArrowId, DiagramId};
-use crate::node::{ArrowNode, DiagramNode};
 use crate::store::Store;
+use crate::view::{ArrowView, DiagramView};
 use diagram_terms::Label;
 
 /// Calls that read one part of a node. None takes memory.
@@ -20,8 +20,8 @@ impl Store {
         ensures store { IsStore self.now }
     {
         match self.view_diagram(d) {
-            DiagramNode::Zero(_) => 0,
-            DiagramNode::Zig { sings, .. } => sings.len(),
+            DiagramView::Zero(_) => 0,
+            DiagramView::Zig { sings, .. } => sings.len(),
         }
     }
 
@@ -33,8 +33,8 @@ impl Store {
         ensures { diagram_at self.now d ≡ point result }
     {
         match self.view_diagram(d) {
-            DiagramNode::Zero(label) => *label,
-            DiagramNode::Zig { .. } => unreachable!(),
+            DiagramView::Zero(label) => label,
+            DiagramView::Zig { .. } => unreachable!(),
         }
     }
 
@@ -47,8 +47,8 @@ impl Store {
         ensures tree { diagram_at self.now result ≡ reg_at (diagram_at self.now d) at }
     {
         match self.view_diagram(d) {
-            DiagramNode::Zero(_) => unreachable!(),
-            DiagramNode::Zig { regs, .. } => regs[at],
+            DiagramView::Zero(_) => unreachable!(),
+            DiagramView::Zig { regs, .. } => DiagramId { index: regs.at(at) },
         }
     }
 
@@ -61,8 +61,10 @@ impl Store {
         ensures tree { diagram_at self.now result ≡ sing_at (diagram_at self.now d) at }
     {
         match self.view_diagram(d) {
-            DiagramNode::Zero(_) => unreachable!(),
-            DiagramNode::Zig { sings, .. } => sings[at],
+            DiagramView::Zero(_) => unreachable!(),
+            DiagramView::Zig { sings, .. } => DiagramId {
+                index: sings.at(at),
+            },
         }
     }
 
@@ -75,8 +77,8 @@ impl Store {
         ensures tree { arrow_at self.now result ≡ fwd_at (diagram_at self.now d) at }
     {
         match self.view_diagram(d) {
-            DiagramNode::Zero(_) => unreachable!(),
-            DiagramNode::Zig { fwds, .. } => fwds[at],
+            DiagramView::Zero(_) => unreachable!(),
+            DiagramView::Zig { fwds, .. } => ArrowId { index: fwds.at(at) },
         }
     }
 
@@ -89,8 +91,8 @@ impl Store {
         ensures tree { arrow_at self.now result ≡ bwd_at (diagram_at self.now d) at }
     {
         match self.view_diagram(d) {
-            DiagramNode::Zero(_) => unreachable!(),
-            DiagramNode::Zig { bwds, .. } => bwds[at],
+            DiagramView::Zero(_) => unreachable!(),
+            DiagramView::Zig { bwds, .. } => ArrowId { index: bwds.at(at) },
         }
     }
 
@@ -102,8 +104,8 @@ impl Store {
         ensures { arrow_at self.now a ≡ ends result.0 result.1 }
     {
         match self.view_arrow(a) {
-            ArrowNode::Zero(from, to) => (*from, *to),
-            ArrowNode::Zig { .. } => unreachable!(),
+            ArrowView::Zero(from, to) => (from, to),
+            ArrowView::Zig { .. } => unreachable!(),
         }
     }
 
@@ -116,8 +118,8 @@ impl Store {
         ensures store { IsStore self.now }
     {
         match self.view_arrow(a) {
-            ArrowNode::Zero(..) => unreachable!(),
-            ArrowNode::Zig { heights, .. } => heights.len(),
+            ArrowView::Zero(..) => unreachable!(),
+            ArrowView::Zig { heights, .. } => heights.len(),
         }
     }
 
@@ -130,8 +132,8 @@ impl Store {
         ensures store { IsStore self.now }
     {
         match self.view_arrow(a) {
-            ArrowNode::Zero(..) => unreachable!(),
-            ArrowNode::Zig { regs, .. } => regs.len() - 1,
+            ArrowView::Zero(..) => unreachable!(),
+            ArrowView::Zig { regs, .. } => regs.len() - 1,
         }
     }
 
@@ -144,8 +146,8 @@ impl Store {
         ensures { result ≡ slice_index (heights (arrow_at self.now a)) at }
     {
         match self.view_arrow(a) {
-            ArrowNode::Zero(..) => unreachable!(),
-            ArrowNode::Zig { heights, .. } => heights[at],
+            ArrowView::Zero(..) => unreachable!(),
+            ArrowView::Zig { heights, .. } => heights.at(at),
         }
     }
 
@@ -159,8 +161,8 @@ impl Store {
         ensures tree { arrow_at self.now result ≡ reg_at (arrow_at self.now a) at }
     {
         match self.view_arrow(a) {
-            ArrowNode::Zero(..) => unreachable!(),
-            ArrowNode::Zig { regs, .. } => regs[at],
+            ArrowView::Zero(..) => unreachable!(),
+            ArrowView::Zig { regs, .. } => ArrowId { index: regs.at(at) },
         }
     }
 
@@ -174,8 +176,10 @@ impl Store {
         ensures tree { arrow_at self.now result ≡ sing_at (arrow_at self.now a) at }
     {
         match self.view_arrow(a) {
-            ArrowNode::Zero(..) => unreachable!(),
-            ArrowNode::Zig { sings, .. } => sings[at],
+            ArrowView::Zero(..) => unreachable!(),
+            ArrowView::Zig { sings, .. } => ArrowId {
+                index: sings.at(at),
+            },
         }
     }
 
@@ -199,8 +203,8 @@ impl Store {
         ensures store { IsStore self.now }
     {
         match self.view_diagram(d) {
-            DiagramNode::Zero(_) => 0,
-            DiagramNode::Zig { regs, .. } => self.diagram_dim(regs[0]) + 1,
+            DiagramView::Zero(_) => 0,
+            DiagramView::Zig { regs, .. } => self.diagram_dim(DiagramId { index: regs.at(0) }) + 1,
         }
     }
 
@@ -211,8 +215,8 @@ impl Store {
         ensures store { IsStore self.now }
     {
         match self.view_arrow(a) {
-            ArrowNode::Zero(..) => 0,
-            ArrowNode::Zig { regs, .. } => self.arrow_dim(regs[0]) + 1,
+            ArrowView::Zero(..) => 0,
+            ArrowView::Zig { regs, .. } => self.arrow_dim(ArrowId { index: regs.at(0) }) + 1,
         }
     }
 }

@@ -3,7 +3,8 @@ ghost use Rattle.std.specs.Prelude.{◌≡◌};
 use crate::id::{ArrowId, DiagramId};
 use crate::node::{ArrowNode, DiagramNode};
 use crate::notes::NoteTables;
-use indexmap::IndexSet;
+use crate::tables::Tables;
+use crate::view::{ArrowView, DiagramView};
 use std::alloc::{AllocError, Global};
 use std::marker::Model;
 
@@ -13,8 +14,7 @@ use std::marker::Model;
 /// twice. An id keeps its tree, and a note stays, whatever is put later.
 #[derive(Drop)]
 pub struct Store {
-    diagrams: IndexSet<DiagramNode>,
-    arrows: IndexSet<ArrowNode>,
+    tables: Tables,
     pub(crate) notes: NoteTables,
 }
 
@@ -25,28 +25,28 @@ impl Model for Store {
 
     ghost coded = { coded_contents };
 
+    ghost use Rattle.hashcons.specs.Entries.{AreHeld, arrow_views, diagram_views};
     ghost use Rattle.hashcons.specs.NoteTables.{notes_of};
     ghost use Rattle.hashcons.specs.Tables.{contents_of, AreTables};
 
-    ghost view = { λ s. contents_of s.arrows.keys s.diagrams.keys (notes_of s.notes) };
+    ghost view = { λ s. contents_of (arrow_views s.tables) (diagram_views s.tables) (notes_of s.notes) };
 
-    ghost invariant = { λ s. AreTables s.arrows.keys s.diagrams.keys (notes_of s.notes) };
+    ghost invariant = { λ s. AreTables (arrow_views s.tables) (diagram_views s.tables) (notes_of s.notes) × AreHeld s.tables };
 }
 
 impl Store {
-    ghost use Rattle.std.specs.Prelude.{◌≡◌, OnErr};
+    ghost use Rattle.std.specs.Prelude.{◌≡◌, length, OnErr};
     ghost use Rattle.diagram_terms.specs.Dimension.{IsDiagramTree, IsArrowTree};
     ghost use Rattle.hashcons.specs.Contents.{empty, IsStore, IsDiagramOf, IsArrowOf, AddsDiagram, AddsArrow, diagram_at, arrow_at};
     ghost use Rattle.hashcons.specs.Made.{MakesDiagram, MakesArrow};
-    ghost use Rattle.hashcons.specs.Nodes.{HasChildrenOf, HasArrowsOf, described_diagram, described_arrow};
+    ghost use Rattle.hashcons.specs.Nodes.{HasChildrenOf, HasArrowsOf, IsArrowOver, IsDiagramOver, described_diagram, described_arrow, tree_of_arrow, tree_of_diagram};
 
     /// A store with no nodes.
     pub fn new(alloc: Global) -> Store
         ensures { result ≡ empty }
     {
         Store {
-            diagrams: IndexSet::new(alloc),
-            arrows: IndexSet::new(alloc),
+            tables: Tables::new(alloc),
             notes: NoteTables::new(alloc),
         }
     }
@@ -55,7 +55,7 @@ impl Store {
     pub fn allocator(&self) -> Global
         ensures { IsStore self.now }
     {
-        *self.diagrams.allocator()
+        self.tables.allocator()
     }
 
     /// The id of the arrow that the node describes.
@@ -66,7 +66,7 @@ impl Store {
         ensures adds { AddsArrow self.old self.new (described_arrow self.old node) }
         ensures err { OnErr result (self.new ≡ self.old) }
     {
-        let (index, _) = self.arrows.insert_full(node)?;
+        let index = self.tables.put_arrow(&node)?;
         Ok(ArrowId { index })
     }
 
@@ -78,27 +78,27 @@ impl Store {
         ensures adds { AddsDiagram self.old self.new (described_diagram self.old node) }
         ensures err { OnErr result (self.new ≡ self.old) }
     {
-        let (index, _) = self.diagrams.insert_full(node)?;
+        let index = self.tables.put_diagram(&node)?;
         Ok(DiagramId { index })
     }
 
-    /// The node of a diagram.
-    pub fn view_diagram(&self, id: DiagramId) -> &DiagramNode
+    /// A diagram, by the ids of its slices and legs.
+    pub(crate) fn view_diagram(&self, id: DiagramId) -> DiagramView<'_>
         requires of_store { IsDiagramOf self.now id }
-        ensures tree { described_diagram self.now result.now ≡ diagram_at self.now id }
-        ensures children { HasChildrenOf self.now result.now }
+        ensures tree { tree_of_diagram self.now.arrows self.now.diagrams result ≡ diagram_at self.now id }
+        ensures children { IsDiagramOver (length self.now.arrows) (length self.now.diagrams) result }
         ensures store { IsStore self.now }
     {
-        &self.diagrams[id.index]
+        self.tables.diagram(id.index)
     }
 
-    /// The node of an arrow.
-    pub fn view_arrow(&self, id: ArrowId) -> &ArrowNode
+    /// An arrow, by its heights and the ids of its slices.
+    pub(crate) fn view_arrow(&self, id: ArrowId) -> ArrowView<'_>
         requires of_store { IsArrowOf self.now id }
-        ensures tree { described_arrow self.now result.now ≡ arrow_at self.now id }
-        ensures children { HasArrowsOf self.now result.now }
+        ensures tree { tree_of_arrow self.now.arrows result ≡ arrow_at self.now id }
+        ensures children { IsArrowOver (length self.now.arrows) result }
         ensures store { IsStore self.now }
     {
-        &self.arrows[id.index]
+        self.tables.arrow(id.index)
     }
 }

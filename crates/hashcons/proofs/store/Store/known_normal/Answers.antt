@@ -14,7 +14,7 @@ value c = normals-copied c.get.result ∙ ap (option_map normal_of) c.get.ensure
 pub returns-clause-right : goal.returns-clause-right
 returns-clause-right c =
     subst (λ s. IfSome c.get.result (λ m. IsNormalOf s (key_of c.args.key.now) (normal_of m.now))) c.self.view_is
-    (normals-right _ c.get.result _ (value c) (c.self.invariant.store.notes.normals (key_of c.args.key.now)))
+    (normals-right _ c.get.result _ (value c) (c.self.invariant.0.store.notes.normals (key_of c.args.key.now)))
 
 pub returns-clause-value : goal.returns-clause-value
 returns-clause-value c = rw (← c.self.view_is) (value c)

@@ -1,4 +1,5 @@
 use Rattle.std.proofs.Common.{sym, subst, ap}
+use Rattle.hashcons.specs.Entries.{arrow_views, diagram_views}
 use Rattle.hashcons.specs.Contents.{Contents, IsCompositeOf}
 use Rattle.hashcons.specs.NoteTables.{notes_of}
 use Rattle.hashcons.specs.Tables.{contents_of}
@@ -8,29 +9,29 @@ use Rattle.hashcons.proofs.NoteLemmas.{put_again, Renotes}
 use Rattle.hashcons.proofs.store.Store.note_composite.Goals as goal
 
 abbrev here : goal.In_ok-insert → Contents
-here c = contents_of c.self.inside.arrows.keys c.self.inside.diagrams.keys (notes_of c.self.inside.notes)
+here c = contents_of (arrow_views c.self.inside.tables) (diagram_views c.self.inside.tables) (notes_of c.self.inside.notes)
 
 is : (c : goal.In_ok-insert) → IsCompositeOf (here c) c.args.g c.args.f c.args.made
 is c = subst (λ s. IsCompositeOf s c.args.g c.args.f c.args.made) (sym c.self.view_is) c.requires
 
-renoted : (c : goal.In_ok-insert) → Renotes c.self.inside.arrows.keys c.self.inside.diagrams.keys (notes_of c.self.inside.notes) (record (notes_of c.self.inside.notes) { composites = c.insert.new.self.entries })
-renoted c = composite_renotes c.self.inside.arrows.keys c.self.inside.diagrams.keys (notes_of c.self.inside.notes) c.self.invariant c.args.g c.args.f c.args.made (is c) c.insert.new.self.entries c.in_ok-insert.ensures.updates.0
+renoted : (c : goal.In_ok-insert) → Renotes (arrow_views c.self.inside.tables) (diagram_views c.self.inside.tables) (notes_of c.self.inside.notes) (record (notes_of c.self.inside.notes) { composites = c.insert.new.self.entries })
+renoted c = composite_renotes (arrow_views c.self.inside.tables) (diagram_views c.self.inside.tables) (notes_of c.self.inside.notes) c.self.invariant.0 c.args.g c.args.f c.args.made (is c) c.insert.new.self.entries c.in_ok-insert.ensures.updates.0
 
 pub invariant_of-self-2 : goal.invariant_of-self-2
-invariant_of-self-2 c = (renoted c).tables
+invariant_of-self-2 c = ((renoted c).tables, c.self.invariant.1)
 
 pub returns-clause-more : goal.returns-clause-more
 returns-clause-more c =
-    rw (← c.self.view_is) (composite_more c.self.inside.arrows.keys c.self.inside.diagrams.keys (notes_of c.self.inside.notes) c.self.invariant c.args.g c.args.f c.args.made (is c) c.insert.new.self.entries c.in_ok-insert.ensures.updates.0)
+    rw (← c.self.view_is) (composite_more (arrow_views c.self.inside.tables) (diagram_views c.self.inside.tables) (notes_of c.self.inside.notes) c.self.invariant.0 c.args.g c.args.f c.args.made (is c) c.insert.new.self.entries c.in_ok-insert.ensures.updates.0)
 
 pub returns-clause-already : goal.returns-clause-already
 returns-clause-already c =
-    rw (← c.self.view_is) (λ some. ap (λ ns. contents_of c.self.inside.arrows.keys c.self.inside.diagrams.keys (record (notes_of c.self.inside.notes) { composites = ns }))
+    rw (← c.self.view_is) (λ some. ap (λ ns. contents_of (arrow_views c.self.inside.tables) (diagram_views c.self.inside.tables) (record (notes_of c.self.inside.notes) { composites = ns }))
     (put_again (same_pair (c.args.g, c.args.f)) (notes_of c.self.inside.notes).composites c.insert.new.self.entries c.args.made _ c.in_ok-insert.field-0
-    c.in_ok-insert.ensures.old c.in_ok-insert.ensures.entries (no_other_composite c.self.inside.arrows.keys c.self.inside.diagrams.keys (notes_of c.self.inside.notes) c.self.invariant c.args.g c.args.f c.args.made (is c)) some))
+    c.in_ok-insert.ensures.old c.in_ok-insert.ensures.entries (no_other_composite (arrow_views c.self.inside.tables) (diagram_views c.self.inside.tables) (notes_of c.self.inside.notes) c.self.invariant.0 c.args.g c.args.f c.args.made (is c)) some))
 
 pub returns-clause-grows : goal.returns-clause-grows
 returns-clause-grows c = rw (← c.self.view_is) (renoted c).grows
 
 pub returns-clause-noted : goal.returns-clause-noted
-returns-clause-noted c = composite_noted c.self.inside.arrows.keys c.self.inside.diagrams.keys (notes_of c.self.inside.notes) c.self.invariant c.args.g c.args.f c.args.made (is c) c.insert.new.self.entries c.in_ok-insert.ensures.updates.0
+returns-clause-noted c = composite_noted (arrow_views c.self.inside.tables) (diagram_views c.self.inside.tables) (notes_of c.self.inside.notes) c.self.invariant.0 c.args.g c.args.f c.args.made (is c) c.insert.new.self.entries c.in_ok-insert.ensures.updates.0

@@ -1,4 +1,5 @@
 use Rattle.std.proofs.Common.{sym, subst, ap}
+use Rattle.hashcons.specs.Entries.{arrow_views, diagram_views}
 use Rattle.hashcons.specs.Contents.{Contents, IsValidTriple}
 use Rattle.hashcons.specs.NoteTables.{notes_of}
 use Rattle.hashcons.specs.Tables.{contents_of}
@@ -7,23 +8,23 @@ use Rattle.hashcons.proofs.NoteLemmas.{put_member_again, Renotes}
 use Rattle.hashcons.proofs.store.Store.note_valid_map.Goals as goal
 
 abbrev here : goal.In_ok-insert → Contents
-here c = contents_of c.self.inside.arrows.keys c.self.inside.diagrams.keys (notes_of c.self.inside.notes)
+here c = contents_of (arrow_views c.self.inside.tables) (diagram_views c.self.inside.tables) (notes_of c.self.inside.notes)
 
 is : (c : goal.In_ok-insert) → IsValidTriple (here c) c.args.source c.args.target c.args.arrow
 is c = subst (λ s. IsValidTriple s c.args.source c.args.target c.args.arrow) (sym c.self.view_is) c.requires
 
-renoted : (c : goal.In_ok-insert) → Renotes c.self.inside.arrows.keys c.self.inside.diagrams.keys (notes_of c.self.inside.notes) (record (notes_of c.self.inside.notes) { valid_maps = c.insert.new.self.keys })
-renoted c = valid_map_renotes c.self.inside.arrows.keys c.self.inside.diagrams.keys (notes_of c.self.inside.notes) c.self.invariant c.args.source c.args.target c.args.arrow (is c) c.insert.new.self.keys c.in_ok-insert.ensures.updates.0
+renoted : (c : goal.In_ok-insert) → Renotes (arrow_views c.self.inside.tables) (diagram_views c.self.inside.tables) (notes_of c.self.inside.notes) (record (notes_of c.self.inside.notes) { valid_maps = c.insert.new.self.keys })
+renoted c = valid_map_renotes (arrow_views c.self.inside.tables) (diagram_views c.self.inside.tables) (notes_of c.self.inside.notes) c.self.invariant.0 c.args.source c.args.target c.args.arrow (is c) c.insert.new.self.keys c.in_ok-insert.ensures.updates.0
 
 pub invariant_of-self-2 : goal.invariant_of-self-2
-invariant_of-self-2 c = (renoted c).tables
+invariant_of-self-2 c = ((renoted c).tables, c.self.invariant.1)
 
 pub returns-clause-more : goal.returns-clause-more
 returns-clause-more c = rw (← c.self.view_is) c.in_ok-insert.ensures.updates.0
 
 pub returns-clause-already : goal.returns-clause-already
 returns-clause-already c =
-    rw (← c.self.view_is) (λ known. ap (λ ns. contents_of c.self.inside.arrows.keys c.self.inside.diagrams.keys (record (notes_of c.self.inside.notes) { valid_maps = ns }))
+    rw (← c.self.view_is) (λ known. ap (λ ns. contents_of (arrow_views c.self.inside.tables) (diagram_views c.self.inside.tables) (record (notes_of c.self.inside.notes) { valid_maps = ns }))
     (put_member_again _ _ _ _ c.in_ok-insert.ensures.added c.in_ok-insert.ensures.unchanged known))
 
 pub returns-clause-grows : goal.returns-clause-grows
