@@ -1,2 +1,2 @@
-pub mod HeldIds
 pub mod PlaceLemmas
+pub mod PlacedDiagrams
