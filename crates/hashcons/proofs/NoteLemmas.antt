@@ -65,6 +65,15 @@ same_key-refl x = and_from _ _ (eq-eqb x.target x.target refl) ((legs_decide x.l
 
 -- ---- notes by their keys
 
+-- a fact of each entry of a table into which v of k is put
+pub puts-all : {K X : Type 0} (eq : K → K → Bool) → ((x y : K) → eq x y ≡ true → x ≡ y) → (old new : List (K × X)) (k : K) (v : X)
+    → ((q : K) → lookup (eq q) new ≡ cond (eq k q) (Some v) (lookup (eq q) old))
+    → (P : K → X → Type 0) → ((q : K) (w : X) → lookup (eq q) old ≡ Some w → P q w) → P k v → (q : K) (w : X) → lookup (eq q) new ≡ Some w → P q w
+puts-all eq exact old new k v updates P all p q w e = elim (cases_Bool (eq k q)) [
+  | inl h ↦ subst (λ x. P x w) (exact k q h) (subst (P k) (same_Some v w (sym (cond-true (eq k q) (Some v) (lookup (eq q) old) h) ∙ sym (updates q) ∙ e)) p)
+  | inr h ↦ all q w (sym (cond-false (eq k q) (Some v) (lookup (eq q) old) h) ∙ sym (updates q) ∙ e)
+]
+
 module _ {K X : Type 0} (eq : K → K → Bool) (exact : (x y : K) → eq x y ≡ true → x ≡ y) (itself : (x : K) → eq x x ≡ true) (old new : List (K × X)) (k : K) (v : X) where
   abbrev put : K → Option X
   put q = cond (eq k q) (Some v) None
