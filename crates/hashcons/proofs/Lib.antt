@@ -20,3 +20,4 @@ pub mod Cutting
 pub mod Distinct
 pub mod Blocks
 pub mod Entries
+pub mod LikeArrows
