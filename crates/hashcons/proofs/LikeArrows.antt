@@ -1,5 +1,6 @@
 -- An arrow of a store with others that have its regular slices.
 use Rattle.std.proofs.Common.{◌≡◌, ℕ, ◌<◌, List, length, get_or, slice_get, Some, sym, ap, subst, ◌∙◌, arith}
+use Rattle.diagram_terms.specs.declared.label.Label.{Label}
 use Rattle.diagram_terms.specs.Tree.{Tree, nil, zag, regs, regs-zag}
 use Rattle.diagram_terms.specs.Dual.{AreBelow}
 use Rattle.diagram_terms.specs.Dimension.{dimension_of, dimension_of-ends, IsArrowTree}
@@ -11,7 +12,7 @@ use Rattle.hashcons.specs.Blocks.{IsPut}
 use Rattle.hashcons.specs.Contents.{Contents, Notes, IsArrowOf, AddsArrow, Grows, arrow_at}
 use Rattle.hashcons.specs.Nodes.{tree_of_arrow, described_like, IsArrowOver}
 use Rattle.hashcons.specs.Tables.{arrow_trees, contents_of, AreTables}
-use Rattle.hashcons.proofs.TableLemmas.{element}
+use Rattle.hashcons.proofs.TableLemmas.{element, slice_get-below}
 use Rattle.hashcons.proofs.PutLemmas.{ReadsArrow, Holds, StoresArrow, reads_arrow, length-arrow_trees, stores_arrow}
 
 -- an arrow above dimension 0, by its lists
@@ -48,12 +49,38 @@ pub like_tree : (c : Contents) (before : List ArrowView) (like : ℕ) (hs ss : L
     → described_like c like hs ss ≡ tree_of_arrow c.arrows (a.Zig hs p.rs ss)
 like_tree c before like hs ss p = ap (λ ts. zag hs ts (picked c.arrows ss)) p.regs_are
 
-pub stores_like : (c : Contents) (before : List ArrowView) (diagrams : List DiagramView) (notes : Notes)
-    → contents_of before diagrams notes ≡ c → AreTables before diagrams notes
-    → (like : ℕ) (hs ss : List ℕ) (p : LikeParts c before like) → AreBelow ss (length c.arrows)
-    → IsArrowTree (described_like c like hs ss) → (after : List ArrowView) (place : ℕ)
-    → IsPut before after (a.Zig hs p.rs ss) place → (same : List DiagramView) → same ≡ diagrams
-    → StoresArrow c after same notes (a.Zig hs p.rs ss) place
-stores_like c before diagrams notes is tables like hs ss p below shape after place put same e =
-    stores_arrow c before diagrams notes (a.Zig hs p.rs ss) is tables (record { regs = p.within; sings = below })
-    (subst IsArrowTree (like_tree c before like hs ss p) shape) after place put same e
+-- what a store is after such an arrow was put
+pub record StoresLike (c : Contents) (arrows : List ArrowView) (diagrams : List DiagramView) (notes : Notes) (t : Tree) (place : ℕ) : Type 0 where
+  pub tables : AreTables arrows diagrams notes
+  pub grows : Grows c (contents_of arrows diagrams notes)
+  pub adds : AddsArrow c (contents_of arrows diagrams notes) t
+  pub held : Holds (arrow_trees arrows) place t
+
+module _ (c : Contents) (before : List ArrowView) (diagrams : List DiagramView) (notes : Notes)
+    (is : contents_of before diagrams notes ≡ c) (tables : AreTables before diagrams notes) (like index : ℕ)
+    (view : index ≡ like) (of_store : IsArrowOf c like) (above : 0 < dimension_of (arrow_at c like)) where
+  parts : LikeParts c before index
+  parts =
+      subst (λ s. LikeParts s before index) is
+      (like_parts before diagrams notes tables index
+      (subst (λ s. IsArrowOf s index) (sym is) (subst (IsArrowOf c) (sym view) of_store))
+      (subst (λ s. 0 < dimension_of (arrow_at s index)) (sym is)
+      (subst (λ i. 0 < dimension_of (arrow_at c i)) (sym view) above)))
+
+  pub like_below : index < length before
+  like_below = slice_get-below before index (a.Zig parts.hs parts.rs parts.ss) parts.there
+
+  pub like_above : (x y : Label) → slice_get before index ≡ Some (a.Zero x y) → ⊥
+  like_above x y e = let f = sym parts.there ∙ e in cc
+
+  pub stores_like : (hs ss : List ℕ) → AreBelow ss (length c.arrows) → IsArrowTree (described_like c like hs ss)
+      → (after : List ArrowView) (place : ℕ)
+      → ((ks rs qs : List ℕ) → slice_get before index ≡ Some (a.Zig ks rs qs) → IsPut before after (a.Zig hs rs ss) place)
+      → (same : List DiagramView) → same ≡ diagrams → StoresLike c after same notes (described_like c like hs ss) place
+  stores_like hs ss below shape after place put same e =
+      let p = parts in
+      let tree = sym (ap (λ i. described_like c i hs ss) view) ∙ like_tree c before index hs ss p in
+      let s = stores_arrow c before diagrams notes (a.Zig hs p.rs ss) is tables
+      (record { regs = p.within; sings = below }) (subst IsArrowTree tree shape) after place (put p.hs p.rs p.ss p.there) same e in
+      subst (λ t. StoresLike c after same notes t place) (sym tree)
+      (record { tables = s.tables; grows = s.grows; adds = s.adds; held = s.held })
