@@ -23,3 +23,4 @@ pub mod Cutting
 pub mod Distinct
 pub mod Blocks
 pub mod Entries
+pub mod LikeArrows

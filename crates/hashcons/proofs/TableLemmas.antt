@@ -76,7 +76,7 @@ IsOnce-push ts t once new i j a b e = by (push_cases ts t i a) (push_cases ts t 
 
 module _ {N : Type 0} where
   -- the element at a place of a list
-  element : (ns : List N) (i : ℕ) → i < length ns → (n : N) × (slice_get ns i ≡ Some n)
+  pub element : (ns : List N) (i : ℕ) → i < length ns → (n : N) × (slice_get ns i ≡ Some n)
   element [] i h = absurd (omega arith)
   element (n ∷ ns) zero h = (n, refl)
   element (n ∷ ns) (suc i) h = element ns i (omega arith)

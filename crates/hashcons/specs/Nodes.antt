@@ -1,6 +1,6 @@
 -- The tree that a node describes over the trees of its children.
 use Rattle.std.specs.Prelude.{ℕ, List, length}
-use Rattle.diagram_terms.specs.Tree.{Tree, point, zig, ends, zag}
+use Rattle.diagram_terms.specs.Tree.{Tree, point, zig, ends, zag, regs}
 use Rattle.diagram_terms.specs.Dual.{AreBelow}
 use Rattle.diagram_terms.specs.Nodes.{picked}
 use Rattle.hashcons.specs.declared.node.DiagramNode.{DiagramNode}
@@ -11,7 +11,7 @@ use Rattle.hashcons.specs.declared.view.DiagramView.{DiagramView}
 use Rattle.hashcons.specs.declared.view.DiagramView.TheVariants as shown
 use Rattle.hashcons.specs.declared.view.ArrowView.{ArrowView}
 use Rattle.hashcons.specs.declared.view.ArrowView.TheVariants as shown_arrow
-use Rattle.hashcons.specs.Contents.{Contents}
+use Rattle.hashcons.specs.Contents.{Contents, arrow_at}
 
 -- a node as a store shows it, by lists of numbers
 abbrev pub viewed_arrow : ArrowNode → ArrowView
@@ -65,3 +65,7 @@ HasChildrenOf c node = IsDiagramOver (length c.arrows) (length c.diagrams) (view
 
 abbrev pub described_diagram : Contents → DiagramNode → Tree
 described_diagram c node = tree_of_diagram c.arrows c.diagrams (viewed_diagram node)
+
+-- the tree of an arrow with the regular slices of another
+abbrev pub described_like : Contents → ℕ → List ℕ → List ℕ → Tree
+described_like c like hs ss = zag hs (regs (arrow_at c like)) (picked c.arrows ss)

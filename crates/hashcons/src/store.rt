@@ -5,6 +5,7 @@ use crate::node::{ArrowNode, DiagramNode};
 use crate::notes::NoteTables;
 use crate::tables::Tables;
 use crate::view::{ArrowView, DiagramView};
+use smallvec::SmallVec;
 use std::alloc::{AllocError, Global};
 use std::marker::Model;
 
@@ -35,11 +36,12 @@ impl Model for Store {
 }
 
 impl Store {
-    ghost use Rattle.std.specs.Prelude.{◌≡◌, length, OnErr};
-    ghost use Rattle.diagram_terms.specs.Dimension.{IsDiagramTree, IsArrowTree};
+    ghost use Rattle.std.specs.Prelude.{◌≡◌, ◌<◌, length, OnErr};
+    ghost use Rattle.diagram_terms.specs.Dimension.{dimension_of, IsDiagramTree, IsArrowTree};
+    ghost use Rattle.diagram_terms.specs.Dual.{AreBelow};
     ghost use Rattle.hashcons.specs.Contents.{empty, IsStore, IsDiagramOf, IsArrowOf, AddsDiagram, AddsArrow, diagram_at, arrow_at};
     ghost use Rattle.hashcons.specs.Made.{MakesDiagram, MakesArrow};
-    ghost use Rattle.hashcons.specs.Nodes.{HasChildrenOf, HasArrowsOf, IsArrowOver, IsDiagramOver, described_diagram, described_arrow, tree_of_arrow, tree_of_diagram};
+    ghost use Rattle.hashcons.specs.Nodes.{HasChildrenOf, HasArrowsOf, IsArrowOver, IsDiagramOver, described_diagram, described_arrow, described_like, tree_of_arrow, tree_of_diagram};
 
     /// A store with no nodes.
     pub fn new(alloc: Global) -> Store
@@ -67,6 +69,27 @@ impl Store {
         ensures err { OnErr result (self.new ≡ self.old) }
     {
         let index = self.tables.put_arrow(&node)?;
+        Ok(ArrowId { index })
+    }
+
+    /// The id of the arrow with these heights and singular slices, and with the regular slices of
+    /// `like`, whose list is not copied.
+    pub fn put_arrow_like(
+        &mut self,
+        like: ArrowId,
+        heights: SmallVec<usize, 4>,
+        sings: SmallVec<ArrowId, 4>,
+    ) -> Result<ArrowId, AllocError>
+        requires like { IsArrowOf self.old like }
+        requires above { 0 < dimension_of (arrow_at self.old like) }
+        requires sings { AreBelow sings.items (length self.old.arrows) }
+        requires shape { IsArrowTree (described_like self.old like heights.items sings.items) }
+        ensures made { MakesArrow self.old self.new (described_like self.old like heights.items sings.items) result }
+        ensures adds { AddsArrow self.old self.new (described_like self.old like heights.items sings.items) }
+        ensures err { OnErr result (self.new ≡ self.old) }
+    {
+        let tables = &mut self.tables;
+        let index = tables.put_arrow_like(like.index, heights.as_slice(), sings.as_slice())?;
         Ok(ArrowId { index })
     }
 

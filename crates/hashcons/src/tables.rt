@@ -237,6 +237,46 @@ impl Tables {
         }
     }
 
+    /// The number of an arrow with the regular slices of another, which is put last where it is new.
+    pub(crate) fn put_arrow_like(
+        &mut self,
+        like: usize,
+        heights: &[usize],
+        sings: &[ArrowId],
+    ) -> Result<usize, AllocError>
+        requires held { AreHeld self.old }
+        requires within { like < length (arrow_views self.old) }
+        requires above { (x y : Label) → slice_get (arrow_views self.old) like ≡ Some (ArrowView.Zero x y) → ⊥ }
+        ensures held { AreHeld self.new }
+        ensures put { IfOk result (λ i. (hs rs ss : List ℕ) → slice_get (arrow_views self.old) like ≡ Some (ArrowView.Zig hs rs ss) → IsPut (arrow_views self.old) (arrow_views self.new) (ArrowView.Zig heights.now rs sings.now) i) }
+        ensures err { OnErr result (arrow_views self.new ≡ arrow_views self.old) }
+        ensures diagrams { diagram_views self.new ≡ diagram_views self.old }
+    {
+        let regs = self.regs_of(like);
+        let counts = self.lists.counts();
+        match put_entry_over(&mut self.lists, &mut self.arrows, regs, heights, sings) {
+            Ok(index) => Ok(index),
+            Err(error) => {
+                self.lists.truncate(&counts);
+                Err(error)
+            }
+        }
+    }
+
+    /// The number of the list of an arrow's regular slices.
+    fn regs_of(&self, like: usize) -> usize
+        requires held { AreHeld self.now }
+        requires within { like < length (arrow_views self.now) }
+        requires above { (x y : Label) → slice_get (arrow_views self.now) like ≡ Some (ArrowView.Zero x y) → ⊥ }
+        ensures number { result < length self.now.lists.arrows }
+        ensures list { (hs rs ss : List ℕ) → slice_get (arrow_views self.now) like ≡ Some (ArrowView.Zig hs rs ss) → get_or self.now.lists.arrows result [] ≡ rs }
+    {
+        match self.arrows[like] {
+            ArrowEntry::Zero(..) => unreachable!(),
+            ArrowEntry::Zig { regs, .. } => regs,
+        }
+    }
+
     /// A diagram.
     pub(crate) fn diagram(&self, index: usize) -> DiagramView<'_>
         requires held { AreHeld self.now }
@@ -309,6 +349,24 @@ fn put_arrow_entry(
     ensures put { IfOk result (λ i. PutsArrowEntry lists.new arrows.old.keys arrows.new.keys (viewed_arrow node.now) i) }
 {
     let entry = lists.put_arrow(node)?;
+    let (index, _) = arrows.insert_full(entry)?;
+    Ok(index)
+}
+
+/// Puts the lists of an arrow whose regular slices are a list that is held, and then its entry.
+fn put_entry_over(
+    lists: &mut NodeLists,
+    arrows: &mut IndexSet<ArrowEntry>,
+    regs: usize,
+    heights: &[usize],
+    sings: &[ArrowId],
+) -> Result<usize, AllocError>
+    requires { regs < length lists.old.arrows }
+    ensures gains { GainsLists lists.old lists.new [] (sings.now ∷ []) (heights.now ∷ []) }
+    ensures err { OnErr result (arrows.new.keys ≡ arrows.old.keys) }
+    ensures put { IfOk result (λ i. PutsArrowEntry lists.new arrows.old.keys arrows.new.keys (ArrowView.Zig heights.now (get_or lists.old.arrows regs []) sings.now) i) }
+{
+    let entry = lists.put_arrow_over(regs, heights, sings)?;
     let (index, _) = arrows.insert_full(entry)?;
     Ok(index)
 }
