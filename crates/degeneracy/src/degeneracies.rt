@@ -13,7 +13,7 @@ ghost use Rattle.degeneracy.specs.DegeneracyShapes.{HasDegenerateRegs, HasDegene
 use crate::degeneracy_kept::DegeneracyKept;
 use hashcons::{AnyId, ArrowId, Store};
 use std::alloc::{AllocError, Global};
-use zigzag_maps::{Map, bwd_map, compose, dual_from, fwd_map, reg_slice, regs_len, sing_slice};
+use zigzag_maps::{Map, bwd_map, compose, dual_from, fwd_map, reg_slice, sing_slice};
 
 /// Whether a map is a degeneracy.
 pub fn is_degeneracy(alloc: Global, store: &mut Store, f: Map) -> Result<bool, AllocError>
@@ -125,7 +125,7 @@ fn regs_are_degeneracies(
     ensures { Decides store.old store.new kept.new (HasDegenerateRegs (diagram_at store.old f.source)
         (diagram_at store.old f.target) (arrow_at store.old f.arrow)) result }
 {
-    for k in 0..regs_len(store, f.arrow) {
+    for k in 0..store.regs_len(f.arrow) {
         let slice = reg_slice(store, f, k);
         if !is_degeneracy_once(alloc, store, kept, dim - 1, slice)? {
             return Ok(false);

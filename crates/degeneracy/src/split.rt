@@ -14,7 +14,7 @@ ghost use Rattle.degeneracy.specs.SplitTrees.{AreParts, middle_bwd, middle_fwd, 
 use hashcons::{ArrowId, ArrowNode, DiagramId, DiagramNode, Store};
 use smallvec::SmallVec;
 use std::alloc::{AllocError, Global};
-use zigzag_maps::{Map, compose, dual_of, fwd_map, identity, reg_slice, regs_len};
+use zigzag_maps::{Map, compose, dual_of, fwd_map, identity, reg_slice};
 
 /// The two parts of a degeneracy `d` above dimension 0: the simple one, and the parallel one, which
 /// follows it. Their composite is `d`, and no other two parts have this composite.
@@ -54,7 +54,7 @@ fn regular_identities(
         (simple_reg (diagram_at store.old f.source) (arrow_at store.old f.arrow)) result }
 {
     let mut ids = SmallVec::new(alloc);
-    for k in 0..regs_len(store, f.arrow) {
+    for k in 0..store.regs_len(f.arrow) {
         let slice = reg_slice(store, f, k);
         let made = identity(alloc, store, slice.source)?;
         ids.push(made.arrow)?;
@@ -96,7 +96,7 @@ fn middle_regs(alloc: Global, store: &Store, f: Map) -> Result<SmallVec<DiagramI
         (middle_reg (diagram_at store.now f.source) (arrow_at store.now f.arrow))) }
 {
     let mut ids = SmallVec::new(alloc);
-    for k in 0..regs_len(store, f.arrow) {
+    for k in 0..store.regs_len(f.arrow) {
         let slice = reg_slice(store, f, k);
         ids.push(slice.source)?;
     }
@@ -301,7 +301,7 @@ fn regs_of(alloc: Global, store: &Store, a: ArrowId) -> Result<SmallVec<ArrowId,
         (reg_at (arrow_at store.now a))) }
 {
     let mut ids = SmallVec::new(alloc);
-    for k in 0..regs_len(store, a) {
+    for k in 0..store.regs_len(a) {
         ids.push(store.arrow_reg(a, k))?;
     }
     Ok(ids)

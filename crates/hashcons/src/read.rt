@@ -137,6 +137,19 @@ impl Store {
         }
     }
 
+    /// The count of an arrow's regular slices: one more than the length of its target.
+    #[tactic(auto, using(crate::proofs::PickLemmas::picks))]
+    pub fn regs_len(&self, a: ArrowId) -> usize
+        requires of_store { IsArrowOf self.now a }
+        requires above { 0 < dimension_of (arrow_at self.now a) }
+        ensures { result ≡ length (regs (arrow_at self.now a)) }
+    {
+        match self.view_arrow(a) {
+            ArrowView::Zero(..) => unreachable!(),
+            ArrowView::Zig { regs, .. } => regs.len(),
+        }
+    }
+
     /// Where an arrow sends a height of its source.
     #[tactic(auto, using(crate::proofs::PickLemmas::picks))]
     pub fn height(&self, a: ArrowId, at: usize) -> usize

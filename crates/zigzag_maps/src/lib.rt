@@ -18,6 +18,6 @@ pub use identities::identity;
 pub use map::Map;
 pub use order::next_step;
 pub use outcome::SquareTest;
-pub use slices::{bwd_map, dual_of, fwd_map, reg_slice, regs_len, sing_slice};
+pub use slices::{bwd_map, dual_of, fwd_map, reg_slice, sing_slice};
 pub use validity::valid;
 pub use walk::{Held, Reading, Walk, first_in};
