@@ -21,3 +21,4 @@ pub mod Distinct
 pub mod Blocks
 pub mod Entries
 pub mod LikeArrows
+pub mod Counting

@@ -8,4 +8,5 @@ pub mod Ids
 pub mod Listing
 pub mod Made
 pub mod Nodes
+pub mod Storage
 pub mod Tables
