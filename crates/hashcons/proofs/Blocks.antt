@@ -273,7 +273,7 @@ slice-take (y ∷ xs) zero i x e = cc
 slice-take (y ∷ xs) (suc n) zero x e = e
 slice-take (y ∷ xs) (suc n) (suc i) x e = slice-take xs n i x e
 
-among-below : (k : ℕ) (ns : List ℕ) (n : ℕ) → AreBelow ns k → Among ns n → n < k
+pub among-below : (k : ℕ) (ns : List ℕ) (n : ℕ) → AreBelow ns k → Among ns n → n < k
 among-below k ns n b a =
     let l = slice-below ns a.place n a.there in
     subst (λ m. m < k) (get-from_slice ns a.place n 0 a.there) (b.below a.place l)

@@ -1,10 +1,8 @@
 -- Lists of one length, since each element of one is an element of the other, and stands once in each.
-use Rattle.std.proofs.Common.{◌≡◌, ◌≢◌, ℕ, zero, suc, ◌<◌, ◌≤◌, ◌+◌, Bool, List, [], ◌∷◌, ◌++◌, length, map, get_or, slice_get, Some, refl, sym, ap, subst, ◌∙◌, arith, ◌⊎◌, inl, inr}
-use Rattle.std.specs.List.{flat_map}
+use Rattle.std.proofs.Common.{◌≡◌, ◌≢◌, ℕ, zero, suc, ◌<◌, ◌≤◌, ◌+◌, List, [], ◌∷◌, ◌++◌, length, map, slice_get, Some, refl, sym, ap, ◌∙◌, arith}
 use Rattle.std.proofs.lemmas.Option.{same_Some}
-use Rattle.std.proofs.lemmas.List.{length-map}
 use Rattle.hashcons.specs.Blocks.{Among, StandOnce, nonempty}
-use Rattle.hashcons.proofs.Distinct.{among-head, among-tail, slice-map, slice-unmap}
+use Rattle.hashcons.proofs.Distinct.{among-head, among-tail, slice-unmap}
 
 module _ {X : Type 0} where
   -- the list without the element at a place
@@ -44,9 +42,9 @@ module _ {X : Type 0} where
       let a = h x (among-head x xs) in
       let rest : (y : X) → Among xs y → Among (without ys a.place) y =
       λ y b.
-          let c = h y (among-tail x xs y b) in
-          left-without ys a.place c.place x y a.there c.there
-          (λ e. once-head x xs o b.place (b.there ∙ ap Some (sym e)))
+      let c = h y (among-tail x xs y b) in
+      left-without ys a.place c.place x y a.there c.there
+      (λ e. once-head x xs o b.place (b.there ∙ ap Some (sym e)))
       in
       let l = fewer xs (without ys a.place) (once-tail x xs o) rest in
       let m = length-without ys a.place x a.there in
@@ -94,8 +92,8 @@ module _ {X : Type 0} where
   nonempty-once ((x ∷ xs) ∷ ls) o =
       once-cons (x ∷ xs) (nonempty ls) (nonempty-once ls (once-tail (x ∷ xs) ls o))
       (λ i e.
-          let r = nonempty-from ls (x ∷ xs) (record { place = i; there = e }) in
-          once-head (x ∷ xs) ls o r.0.place r.0.there)
+      let r = nonempty-from ls (x ∷ xs) (record { place = i; there = e }) in
+      once-head (x ∷ xs) ls o r.0.place r.0.there)
 
   pub nonempty-append : (ls ms : List (List X)) → length (nonempty (ls ++ ms)) ≡ length (nonempty ls) + length (nonempty ms)
   nonempty-append [] ms = omega arith

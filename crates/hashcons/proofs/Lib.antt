@@ -22,3 +22,5 @@ pub mod Blocks
 pub mod Entries
 pub mod LikeArrows
 pub mod Counting
+pub mod Counted
+pub mod StoredLists

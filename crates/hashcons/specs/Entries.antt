@@ -1,5 +1,5 @@
 -- Nodes that are kept by the numbers of their lists.
-use Rattle.std.specs.Prelude.{◌≡◌, ℕ, ◌+◌, ◌⊎◌, List, [], ◌∷◌, ◌++◌, map, take, get_or, slice_get, Some}
+use Rattle.std.specs.Prelude.{◌≡◌, ℕ, ◌+◌, ◌⊎◌, List, [], ◌∷◌, ◌++◌, length, map, take, get_or, slice_get, Some}
 use Rattle.std.specs.List.{flat_map}
 use Rattle.hashcons.specs.declared.tables.DiagramEntry.{DiagramEntry}
 use Rattle.hashcons.specs.declared.tables.DiagramEntry.TheVariants as diagram

@@ -1,4 +1,4 @@
-use Rattle.std.proofs.Common.{◌≡◌, ◌∷◌, [], slice_get, Some, length, take, take_all, sym, ap, ◌∙◌, arith}
+use Rattle.std.proofs.Common.{◌≡◌, ◌∷◌, [], slice_get, Some, length, take_all, sym, ap, ◌∙◌, arith}
 use Rattle.hashcons.specs.Blocks.{items_of, nonempty}
 use Rattle.hashcons.proofs.Distinct.{slice-from_get}
 use Rattle.hashcons.proofs.Blocks.{filled-more, filled-all}
