@@ -5,14 +5,15 @@ use Rattle.std.specs.List.{flat_map}
 use Rattle.std.specs.Bool.{Decides}
 use Rattle.std.proofs.lemmas.Bool.Decides.{Decides-eqb}
 use Rattle.std.proofs.lemmas.Slice.Eq.{slice_eq-Decides}
-use Rattle.std.proofs.lemmas.List.{map_push, length-map, get_or_append_left, take_min, drop_min, take-map, take-append-le}
+use Rattle.std.proofs.lemmas.List.{map_push, length-map, get_or_append_left, take_min, take_more, drop_min, take-map, take-append-le}
 use Rattle.hashcons.proofs.TableLemmas.{below_head, below_tail, AreBelow-more}
 use Rattle.std.proofs.lemmas.Option.{same_Some}
 use Rattle.smallvec.specs.SmallVec.{SmallVec}
 use Rattle.indexmap.specs.IndexSet.{insert_key, insert_all}
 use Rattle.diagram_terms.specs.Dual.{AreBelow}
-use Rattle.hashcons.specs.Blocks.{blocks_of, distinct_blocks, items_of, same_numbers, blocks_at, joined, lists_in, IsPut, Among, StandOnce, AreBlocksOf, AreInBlocks, PutsList}
+use Rattle.hashcons.specs.Blocks.{blocks_of, nonempty, distinct_blocks, items_of, same_numbers, blocks_at, joined, lists_in, IsPut, Among, StandOnce, AreBlocksOf, AreInBlocks, PutsList}
 use Rattle.hashcons.proofs.Cutting.{IsBlockOf, blocks_of-more, blocks_join, blocks_have, blocks_length, blocks_none}
+use Rattle.hashcons.proofs.Counting.{nonempty-append}
 use Rattle.hashcons.proofs.Distinct.{among-head, among-tail, among-left, among-right, slice-below, slice-from_get, get-from_slice, slice-map, slice-unmap, slice-push_cases, put_is, inserts, inserts_many, insert_all_present, distinct_once, distinct_has, insert_all-append, map-insert_key}
 
 pub numbers_decide : (xs ys : List ℕ) → Decides (same_numbers xs ys) (xs ≡ ys)
@@ -272,7 +273,7 @@ slice-take (y ∷ xs) zero i x e = cc
 slice-take (y ∷ xs) (suc n) zero x e = e
 slice-take (y ∷ xs) (suc n) (suc i) x e = slice-take xs n i x e
 
-among-below : (k : ℕ) (ns : List ℕ) (n : ℕ) → AreBelow ns k → Among ns n → n < k
+pub among-below : (k : ℕ) (ns : List ℕ) (n : ℕ) → AreBelow ns k → Among ns n → n < k
 among-below k ns n b a =
     let l = slice-below ns a.place n a.there in
     subst (λ m. m < k) (get-from_slice ns a.place n 0 a.there) (b.below a.place l)
@@ -476,3 +477,37 @@ module _ (bks nks : List (SmallVec ℕ)) (tables : AreInBlocks (items_of bks) (i
     entry_is b g =
         entry.is (get_or k.items (at / 8) 0) b.items 0 (slice-from_get k.items (at / 8) 0 entry.number)
         (slice-map (λ v. v.items) bks (get_or k.items (at / 8) 0) b g)
+
+-- ---- the lists that have an entry
+
+pub filled-more : (ks : List (SmallVec ℕ)) (i : ℕ) (k : SmallVec ℕ) → slice_get ks i ≡ Some k
+    → length (nonempty (items_of (take (i + 1) ks))) ≡ length (nonempty (items_of (take i ks))) + length (nonempty (k.items ∷ []))
+filled-more ks i k e =
+    let l = slice-below ks i k e in
+    let t = take_more ks i k l in
+    let g = get-from_slice ks i k k e in
+    ap (λ vs. length (nonempty (items_of vs))) (t ∙ ap (λ v. take i ks ++ v ∷ []) g)
+    ∙ ap (λ vs. length (nonempty vs)) (map_push (λ v. v.items) (take i ks) k)
+    ∙ nonempty-append (items_of (take i ks)) (k.items ∷ [])
+
+filled-same : (bs nss : List (List ℕ))
+    → ((k : ℕ) (ns : List ℕ) → slice_get nss k ≡ Some ns → AreBlocksOf bs ns (joined bs ns))
+    → length (nonempty nss) ≡ length (nonempty (lists_in bs nss))
+filled-same bs [] h = refl
+filled-same bs (ns ∷ nss) h = by ns (h 0 ns refl) (filled-same bs nss (λ k ms e. h (suc k) ms e))
+  where
+    by : (ns : List ℕ) → AreBlocksOf bs ns (joined bs ns) → length (nonempty nss) ≡ length (nonempty (lists_in bs nss))
+        → length (nonempty (ns ∷ nss)) ≡ length (nonempty (joined bs ns ∷ lists_in bs nss))
+    by [] a rest = rest
+    by (n ∷ ms) a rest = some (joined bs (n ∷ ms)) refl
+      where
+        some : (xs : List ℕ) → joined bs (n ∷ ms) ≡ xs
+            → length (nonempty ((n ∷ ms) ∷ nss)) ≡ length (nonempty (joined bs (n ∷ ms) ∷ lists_in bs nss))
+        some [] e =
+            let c = ap length a.are ∙ ap (λ xs. length (blocks_of xs)) e in
+            absurd (omega arith)
+        some (x ∷ xs) e = ap suc rest ∙ sym (ap (λ ls. length (nonempty (ls ∷ lists_in bs nss))) e)
+
+pub filled-all : (bks nks : List (SmallVec ℕ)) → AreInBlocks (items_of bks) (items_of nks)
+    → length (nonempty (items_of nks)) ≡ length (nonempty (lists_in (items_of bks) (items_of nks)))
+filled-all bks nks tables = filled-same (items_of bks) (items_of nks) tables.lists

@@ -24,3 +24,6 @@ pub mod Distinct
 pub mod Blocks
 pub mod Entries
 pub mod LikeArrows
+pub mod Counting
+pub mod Counted
+pub mod StoredLists

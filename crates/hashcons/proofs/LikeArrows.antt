@@ -1,7 +1,7 @@
 -- An arrow of a store with others that have its regular slices.
-use Rattle.std.proofs.Common.{◌≡◌, ℕ, ◌<◌, List, length, get_or, slice_get, Some, sym, ap, subst, ◌∙◌, arith}
+use Rattle.std.proofs.Common.{◌≡◌, ℕ, ◌<◌, List, length, slice_get, Some, sym, ap, subst, ◌∙◌, arith}
 use Rattle.diagram_terms.specs.declared.label.Label.{Label}
-use Rattle.diagram_terms.specs.Tree.{Tree, nil, zag, regs, regs-zag}
+use Rattle.diagram_terms.specs.Tree.{Tree, zag, regs, regs-zag}
 use Rattle.diagram_terms.specs.Dual.{AreBelow}
 use Rattle.diagram_terms.specs.Dimension.{dimension_of, dimension_of-ends, IsArrowTree}
 use Rattle.diagram_terms.specs.Nodes.{picked}
@@ -10,10 +10,10 @@ use Rattle.hashcons.specs.declared.view.ArrowView.TheVariants as a
 use Rattle.hashcons.specs.declared.view.DiagramView.{DiagramView}
 use Rattle.hashcons.specs.Blocks.{IsPut}
 use Rattle.hashcons.specs.Contents.{Contents, Notes, IsArrowOf, AddsArrow, Grows, arrow_at}
-use Rattle.hashcons.specs.Nodes.{tree_of_arrow, described_like, IsArrowOver}
+use Rattle.hashcons.specs.Nodes.{tree_of_arrow, described_like}
 use Rattle.hashcons.specs.Tables.{arrow_trees, contents_of, AreTables}
 use Rattle.hashcons.proofs.TableLemmas.{element, slice_get-below}
-use Rattle.hashcons.proofs.PutLemmas.{ReadsArrow, Holds, StoresArrow, reads_arrow, length-arrow_trees, stores_arrow}
+use Rattle.hashcons.proofs.PutLemmas.{ReadsArrow, Holds, reads_arrow, length-arrow_trees, stores_arrow}
 
 -- an arrow above dimension 0, by its lists
 pub record LikeParts (c : Contents) (arrows : List ArrowView) (like : ℕ) : Type 0 where

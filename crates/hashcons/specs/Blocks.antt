@@ -16,6 +16,12 @@ module _ {X : Type 0} where
   abbrev pub blocks_of : List X → List (List X)
   blocks_of xs = cut (length xs) xs
 
+  -- the lists that have an entry
+  abbrev pub nonempty : List (List X) → List (List X)
+  nonempty [] = []
+  nonempty ([] ∷ ls) = nonempty ls
+  nonempty ((x ∷ xs) ∷ ls) = (x ∷ xs) ∷ nonempty ls
+
   -- x stands in the list
   pub record Among (xs : List X) (x : X) : Type 0 where
     pub place : ℕ

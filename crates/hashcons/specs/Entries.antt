@@ -1,5 +1,5 @@
 -- Nodes that are kept by the numbers of their lists.
-use Rattle.std.specs.Prelude.{◌≡◌, ℕ, ◌⊎◌, List, [], ◌∷◌, ◌++◌, map, take, get_or, slice_get, Some}
+use Rattle.std.specs.Prelude.{◌≡◌, ℕ, ◌+◌, ◌⊎◌, List, [], ◌∷◌, ◌++◌, length, map, take, get_or, slice_get, Some}
 use Rattle.std.specs.List.{flat_map}
 use Rattle.hashcons.specs.declared.tables.DiagramEntry.{DiagramEntry}
 use Rattle.hashcons.specs.declared.tables.DiagramEntry.TheVariants as diagram
@@ -12,7 +12,8 @@ use Rattle.hashcons.specs.declared.view.DiagramView.{DiagramView}
 use Rattle.hashcons.specs.declared.view.DiagramView.TheVariants as shown
 use Rattle.hashcons.specs.declared.view.ArrowView.{ArrowView}
 use Rattle.hashcons.specs.declared.view.ArrowView.TheVariants as shown_arrow
-use Rattle.hashcons.specs.Blocks.{IsPut, Among, StandOnce}
+use Rattle.hashcons.specs.Blocks.{IsPut, Among, StandOnce, nonempty, distinct_blocks}
+use Rattle.hashcons.specs.declared.storage.Storage.{Storage}
 use Rattle.hashcons.specs.Counts.{AreCounts}
 
 abbrev pub no_lists : NodeLists
@@ -127,3 +128,11 @@ pub record AreHeldBy (l : NodeLists) (ds : List DiagramEntry) (xs : List ArrowEn
 
 abbrev pub AreHeld : Tables → Type 0
 AreHeld t = AreHeldBy t.lists t.diagrams.keys t.arrows.keys
+
+-- the counts of the nodes, of their lists and of the blocks of these
+pub record CountsTables (t : Tables) (s : Storage) : Type 0 where
+  pub diagrams : s.diagrams ≡ length t.diagrams.keys
+  pub arrows : s.arrows ≡ length t.arrows.keys
+  pub lists : s.lists ≡ length (nonempty t.lists.diagrams) + length (nonempty t.lists.arrows) + length (nonempty t.lists.heights)
+  pub blocks : s.blocks ≡ length (distinct_blocks t.lists.diagrams) + length (distinct_blocks t.lists.arrows)
+      + length (distinct_blocks t.lists.heights)

@@ -11,4 +11,5 @@ pub mod Nodes
 pub mod NormalTrees
 pub mod NoteTables
 pub mod Notes
+pub mod Storage
 pub mod Tables

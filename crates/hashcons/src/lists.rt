@@ -1,5 +1,5 @@
-ghost use Rattle.std.specs.Prelude.{◌≡◌, ◌<◌, ◌≤◌, ◌++◌, IfOk, OnOk, OnErr, length, take};
-ghost use Rattle.hashcons.specs.Blocks.{IsPut, PutsList, AreBlocksOf, blocks_of, items_of, same_numbers};
+ghost use Rattle.std.specs.Prelude.{◌≡◌, ◌<◌, ◌≤◌, ◌^◌, [], ◌∷◌, ◌++◌, IfOk, OnOk, OnErr, length, take};
+ghost use Rattle.hashcons.specs.Blocks.{IsPut, PutsList, AreBlocksOf, blocks_of, distinct_blocks, nonempty, items_of, same_numbers};
 ghost use Rattle.hashcons.specs.Counts.{AreCounts};
 ghost use Rattle.indexmap.specs.IndexSet.{insert_all};
 
@@ -39,7 +39,7 @@ impl Model for Lists {
 }
 
 impl Lists {
-    ghost use Rattle.std.specs.Prelude.{[], get_or, slice_index};
+    ghost use Rattle.std.specs.Prelude.{get_or, slice_index};
 
     /// No lists.
     pub(crate) fn new(alloc: Global) -> Lists
@@ -81,6 +81,27 @@ impl Lists {
         }
     }
 
+    /// How many distinct blocks the lists have.
+    pub(crate) fn block_count(&self) -> usize
+        ensures count { result ≡ length (distinct_blocks self.now) }
+        ensures small { result < 2 ^ 60 }
+    {
+        self.blocks.as_slice().len()
+    }
+
+    /// How many lists are not empty.
+    pub(crate) fn filled_count(&self) -> usize
+        ensures count { result ≡ length (nonempty self.now) }
+        ensures small { result < 2 ^ 60 }
+    {
+        let lists = self.lists.as_slice();
+        let mut count = 0;
+        for at in 0..lists.len() {
+            count += filled(lists[at].as_slice());
+        }
+        count
+    }
+
     /// Keeps the first lists, of which these are the counts.
     pub(crate) fn truncate(&mut self, counts: &Counts)
         requires { AreCounts (take counts.now.lists self.old) counts.now }
@@ -112,6 +133,14 @@ impl Lists {
         let block = self.lists[list][at / BLOCK];
         self.blocks[block][at % BLOCK]
     }
+}
+
+/// 1 for a list that has an entry, 0 for the empty one.
+fn filled(numbers: &[usize]) -> usize
+    ensures count { result ≡ length (nonempty (numbers.now ∷ [])) }
+    ensures small { result ≤ 1 }
+{
+    usize::from(!numbers.is_empty())
 }
 
 /// Puts the blocks of a list, and then the list.

@@ -3,6 +3,7 @@ ghost use Rattle.std.specs.Prelude.{◌≡◌};
 use crate::id::{ArrowId, DiagramId};
 use crate::node::{ArrowNode, DiagramNode};
 use crate::notes::NoteTables;
+use crate::storage::Storage;
 use crate::tables::Tables;
 use crate::view::{ArrowView, DiagramView};
 use smallvec::SmallVec;
@@ -40,6 +41,7 @@ impl Store {
     ghost use Rattle.diagram_terms.specs.Dimension.{dimension_of, IsDiagramTree, IsArrowTree};
     ghost use Rattle.diagram_terms.specs.Dual.{AreBelow};
     ghost use Rattle.hashcons.specs.Contents.{empty, IsStore, IsDiagramOf, IsArrowOf, AddsDiagram, AddsArrow, diagram_at, arrow_at};
+    ghost use Rattle.hashcons.specs.Storage.{storage_of};
     ghost use Rattle.hashcons.specs.Made.{MakesDiagram, MakesArrow};
     ghost use Rattle.hashcons.specs.Nodes.{HasChildrenOf, HasArrowsOf, IsArrowOver, IsDiagramOver, described_diagram, described_arrow, described_like, tree_of_arrow, tree_of_diagram};
 
@@ -103,6 +105,14 @@ impl Store {
     {
         let index = self.tables.put_diagram(&node)?;
         Ok(DiagramId { index })
+    }
+
+    /// How many distinct trees the store holds, and how many distinct lists of their slices, legs
+    /// and heights and how many distinct blocks it keeps of them. It takes no memory.
+    pub fn storage(&self) -> Storage
+        ensures { result ≡ storage_of self.now }
+    {
+        self.tables.storage()
     }
 
     /// A diagram, by the ids of its slices and legs.

@@ -1,11 +1,12 @@
 ghost use Rattle.std.specs.Prelude.{◌≡◌, ℕ, ◌<◌, List, [], ◌∷◌, IfOk, OnErr, length, get_or, slice_get, Some};
 ghost use Rattle.hashcons.specs.Blocks.{IsPut, Among};
-ghost use Rattle.hashcons.specs.Entries.{AreHeld, Gains, GainsLists, HaveCounts, PutsDiagramEntry, PutsArrowEntry, ShowsDiagram, ShowsArrow, first_lists, no_lists, diagram_parts, leg_parts, slice_parts, height_parts, diagram_views, arrow_views};
+ghost use Rattle.hashcons.specs.Entries.{AreHeld, CountsTables, Gains, GainsLists, HaveCounts, PutsDiagramEntry, PutsArrowEntry, ShowsDiagram, ShowsArrow, first_lists, no_lists, diagram_parts, leg_parts, slice_parts, height_parts, diagram_views, arrow_views};
 ghost use Rattle.hashcons.specs.Nodes.{viewed_diagram, viewed_arrow};
 
 use crate::id::{ArrowId, DiagramId};
 use crate::lists::{Counts, Lists};
 use crate::node::{ArrowNode, DiagramNode};
+use crate::storage::Storage;
 use crate::view::{ArrowView, DiagramView, Held};
 use diagram_terms::Label;
 use indexmap::IndexSet;
@@ -274,6 +275,23 @@ impl Tables {
         match self.arrows[like] {
             ArrowEntry::Zero(..) => unreachable!(),
             ArrowEntry::Zig { regs, .. } => regs,
+        }
+    }
+
+    /// How many nodes there are, and how many lists and blocks they have.
+    pub(crate) fn storage(&self) -> Storage
+        ensures { CountsTables self.now result }
+    {
+        let lists = &self.lists;
+        Storage {
+            diagrams: self.diagrams.len(),
+            arrows: self.arrows.len(),
+            lists: lists.diagrams.filled_count()
+                + lists.arrows.filled_count()
+                + lists.heights.filled_count(),
+            blocks: lists.diagrams.block_count()
+                + lists.arrows.block_count()
+                + lists.heights.block_count(),
         }
     }
 

@@ -1,8 +1,6 @@
 use Rattle.hashcons.specs.Entries.{arrow_views, diagram_views}
 use Rattle.hashcons.specs.NoteTables.{notes_of}
 use Rattle.hashcons.proofs.LikeArrows.{like_below, like_above, stores_like}
-use Rattle.std.proofs.Common.{length, ◌<◌, subst, sym}
-use Rattle.std.proofs.lemmas.List.{length-map}
 use Rattle.hashcons.proofs.store.Store.put_arrow_like.Goals as goal
 
 pub put_arrow_like-requires-clause-within : goal.put_arrow_like-requires-clause-within

@@ -1,6 +1,4 @@
 use Rattle.std.proofs.Common.{Some, ap, sym, ◌∙◌, [], get_or, ◌≡◌}
-use Rattle.std.proofs.lemmas.Option.{same_Some}
-use Rattle.hashcons.specs.declared.view.ArrowView.TheVariants as shown
 use Rattle.hashcons.specs.Entries.{arrow_view}
 use Rattle.hashcons.proofs.Distinct.{slice-below, slice-map}
 use Rattle.hashcons.proofs.Entries.{arrow_held}
