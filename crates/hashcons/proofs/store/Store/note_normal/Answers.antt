@@ -21,10 +21,11 @@ returns-then-contains_key-clause-noted c =
 -- ---- where it has none
 
 pub invariant_of-self-2 : goal.invariant_of-self-2
-invariant_of-self-2 c =
-    (    (normal_noted (arrow_views c.self.inside.tables) (diagram_views c.self.inside.tables) c.self.inside.notes c.self.invariant.0 c.args.key c.args.made c.args.self.now c.self.view_is
-    c.requires c.contains_key.result c.contains_key.ensures c.if-contains_key.false c.insert.new.self.entries c.in_ok-insert.ensures.updates.0).renoted.tables,
-    c.self.invariant.1)
+invariant_of-self-2 c = (
+  (normal_noted (arrow_views c.self.inside.tables) (diagram_views c.self.inside.tables) c.self.inside.notes c.self.invariant.0 c.args.key c.args.made c.args.self.now c.self.view_is
+      c.requires c.contains_key.result c.contains_key.ensures c.if-contains_key.false c.insert.new.self.entries c.in_ok-insert.ensures.updates.0).renoted.tables,
+  c.self.invariant.1,
+)
 
 pub returns-clause-more : goal.returns-clause-more
 returns-clause-more c =
