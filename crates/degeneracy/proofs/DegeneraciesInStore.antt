@@ -1,20 +1,15 @@
 -- Degeneracies among the maps of a store, part by part, while the store grows.
-use Rattle.std.proofs.Common.{◌≡◌, ◌↔◌, ℕ, zero, suc, List, inl, inr, ◌<◌, length, get_or, Bool, true, false, IsTrue, Result, Ok, refl, sym, subst, arith}
+use Rattle.std.proofs.Common.{◌≡◌, ◌↔◌, ℕ, zero, suc, List, inl, inr, ◌<◌, length, get_or, Bool, true, false, IsTrue, Result, Ok, refl, subst, arith}
 use Rattle.std.specs.Result.{IsErr}
 use Rattle.std.proofs.lemmas.Result.{IfOk-from_err}
 use Rattle.std.proofs.lemmas.Bool.{cases_lt}
 use Rattle.diagram_terms.specs.Dual.{IsIncreasing}
-use Rattle.diagram_terms.specs.Tree.{Tree}
-use Rattle.hashcons.specs.Contents.{Contents, Grows, IsStore, IsDiagramOf, IsArrowOf, diagram_at, arrow_at}
+use Rattle.hashcons.specs.Contents.{Contents, Grows, IsStore, IsDiagramOf, diagram_at}
 use Rattle.hashcons.proofs.ContentsLemmas.{Grows-refl}
 use Rattle.hashcons.proofs.Growth.{Grows-trans, store-kept, diagram-kept, arrow-kept, diagram_at-kept, arrow_at-kept}
-use Rattle.zigzag_maps.specs.declared.map.Map.{Map}
-use Rattle.zigzag_maps.specs.Found.{IsValidMap}
 use Rattle.zigzag_maps.proofs.KeepLemmas.{valid_map-grows, valid_diagram-grows, between_same}
 use Rattle.degeneracy.specs.declared.degeneracy_kept.DegeneracyKept.{DegeneracyKept}
 use Rattle.degeneracy.specs.DegeneracyKeeps.{AreDegeneracies, Decides}
-use Rattle.degeneracy.proofs.DegenerateShapes.{valid_arrow, between_of}
-use Rattle.zigzag_maps.specs.MapTrees.{IsValidArrowTree}
 use Rattle.degeneracy.proofs.FactorMaps.{degeneracy_map-grows}
 
 -- ---- answers

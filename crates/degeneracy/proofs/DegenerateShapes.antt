@@ -1,27 +1,25 @@
 -- A degeneracy on trees, told by its shape.
-use Rattle.std.proofs.Common.{◌≡◌, ◌↔◌, ℕ, zero, suc, ◌<◌, ◌≤◌, length, get_or, sym, ap, subst, ◌∙◌, arith}
+use Rattle.std.proofs.Common.{◌≡◌, ◌↔◌, ℕ, zero, suc, ◌<◌, length, get_or, sym, ap, subst, ◌∙◌, arith}
 use Rattle.diagram_terms.specs.Tree.{Tree, heights, regs, sings, from_at, to_at}
-use Rattle.diagram_terms.specs.Family.{Dia, Arr, reg, fwd, bwd, arrow_reg}
+use Rattle.diagram_terms.specs.Family.{Dia, Arr, fwd, bwd, arrow_reg}
 use Rattle.diagram_terms.specs.Decoded.{dia, arr}
 use Rattle.diagram_terms.specs.Composite.{comp}
 use Rattle.diagram_terms.specs.Dual.{dual}
-use Rattle.diagram_terms.specs.Shape.{IsDiagram, IsArrow, reg_at, sing_at, fwd_at, bwd_at}
-use Rattle.diagram_terms.specs.Dimension.{dimension_of, IsDiagramTree}
-use Rattle.diagram_terms.specs.Valid.{Valid, ValidArrow}
+use Rattle.diagram_terms.specs.Shape.{IsArrow, reg_at, sing_at, fwd_at, bwd_at}
+use Rattle.diagram_terms.specs.Dimension.{dimension_of}
 use Rattle.diagram_terms.specs.Degeneracy.{Degeneracy, DegeneracyByShape}
-use Rattle.diagram_terms.proofs.Dimensions.{arrow_dimension, diagram_dimension, diagram_tree}
-use Rattle.diagram_terms.proofs.Duals.{dual-le-length}
-use Rattle.diagram_terms.proofs.Glue.{arr-arr_tree, dia-reg, dia-sing, dia-fwd, dia-bwd, dia-sings_len, arr-reg, arr-sing, arr-regs_len}
+use Rattle.diagram_terms.proofs.Dimensions.{arrow_dimension}
+use Rattle.diagram_terms.proofs.Glue.{arr-arr_tree, dia-reg, dia-sing, dia-fwd, dia-bwd, dia-sings_len, arr-reg, arr-sing}
 use Rattle.diagram_terms.proofs.Shapes.{one_diagram_dimension}
 use Rattle.degeneracy_laws.proofs.Shapes.{degeneracies_have_shape}
 use Rattle.degeneracy_laws.proofs.Splits.{shape_means_degeneracy}
 use Rattle.diagram_terms.specs.Operations.{composite_tree}
-use Rattle.diagram_terms.specs.ValidTrees.{IsValidTreeAt, IsValidTree, IsArrowBetween, AreComposableAt}
+use Rattle.diagram_terms.specs.ValidTrees.{IsValidTreeAt, AreComposableAt}
 use Rattle.zigzag_maps.proofs.CompositeLemmas.{composite_shape}
 use Rattle.diagram_terms.proofs.NotionsOnTrees.{on_arrow_at}
 use Rattle.degeneracy.specs.DegeneracyTrees.{IsDegeneracyTree}
 use Rattle.zigzag_maps.specs.MapTrees.{IsValidArrowAt, IsValidArrowTree}
-use Rattle.zigzag_maps.proofs.ValidArrows.{reg_tree, sing_tree, fwd_at_is, bwd_at_is, regs_is, heights_is, height_in, reg_source, reg_is, sing_is}
+use Rattle.zigzag_maps.proofs.ValidArrows.{sing_tree, fwd_at_is, bwd_at_is, regs_is, heights_is, height_in, reg_source, reg_is, sing_is, sings_is}
 use Rattle.degeneracy.specs.DegeneracyShapes.{HasDegeneracyShape}
 
 same_shape : (d : ℕ) (X Y Z W : Dia d) (f g : Arr d) → X ≡ Z → Y ≡ W → f ≡ g → DegeneracyByShape d X Y f → DegeneracyByShape d Z W g

@@ -4,3 +4,6 @@ pub mod FactorsInStore
 pub mod FactorMaps
 pub mod DegenerateShapes
 pub mod DegeneraciesInStore
+pub mod ParallelParts
+pub mod PartsOnTrees
+pub mod PartsInStore

@@ -1,7 +1,7 @@
 -- The parallel part of an arrow of the shape of a degeneracy is parallel, so the parts of the arrow are those into which it
 -- splits.
 use Rattle.std.proofs.Common.{◌≡◌, ℕ, suc, ◌-◌, ◌<◌, ◌≤◌, List, length, get_or, sym, ap, ◌∙◌, subst, arith, inl, inr}
-use Rattle.diagram_terms.specs.Family.{Dia, Arr, reg, sing, fwd, bwd, height, arrow_reg, arrow_sing}
+use Rattle.diagram_terms.specs.Family.{Dia, Arr, reg, sing, fwd, height, arrow_reg, arrow_sing}
 use Rattle.diagram_terms.specs.Dual.{IsIncreasing, IsMonotone, AreBelow, upto, dual}
 use Rattle.diagram_terms.specs.Composite.{comp}
 use Rattle.diagram_terms.specs.Valid.{ValidArrow, Valid, Commutes}
@@ -18,7 +18,6 @@ module _ (d : ℕ) (X Y : Dia (suc d)) (f : Arr (suc d))
     (vX : Valid (suc d) X) (vY : Valid (suc d) Y) (v : ValidArrow (suc d) X Y f) (s : IsIncreasing f.heights) where
   abbrev M : Dia (suc d)
   M = middle d X Y f
-
 
   abbrev P : Arr (suc d)
   P = parallel_part d X Y f

@@ -1,7 +1,7 @@
 -- The parts of a degeneracy on trees: their slices and legs, their shape, and that they stand for the parts of the family.
 use Rattle.std.proofs.Common.{◌≡◌, ℕ, zero, suc, ◌<◌, ◌≤◌, length, get_or, refl, sym, ap, subst, ◌∙◌, arith, inl, inr}
 use Rattle.std.proofs.lemmas.Bool.{cases_lt, cond-true, cond-false, lt-ltb, le-ltb}
-use Rattle.diagram_terms.specs.Tree.{Tree, nil, zig, zag, heights, regs, sings, fwds, bwds, regs-zig, sings-zig, fwds-zig, bwds-zig, heights-zag, regs-zag, sings-zag}
+use Rattle.diagram_terms.specs.Tree.{Tree, nil, heights, regs, sings, fwds, bwds, regs-zig, sings-zig, fwds-zig, bwds-zig, heights-zag, regs-zag, sings-zag}
 use Rattle.diagram_terms.specs.Family.{Dia, Arr, reg, sing, fwd, bwd, arrow_reg, arrow_sing}
 use Rattle.diagram_terms.specs.Decoded.{dia, arr, arr_tree}
 use Rattle.diagram_terms.specs.Composite.{comp, ident}

@@ -6,16 +6,20 @@ ghost use Rattle.diagram_terms.specs.Tree.{from_at, heights, regs, sings, to_at}
 ghost use Rattle.hashcons.specs.Contents.{Grows, IsArrowOf, IsStore, arrow_at, diagram_at};
 ghost use Rattle.diagram_terms.specs.Operations.{composite_tree};
 ghost use Rattle.zigzag_maps.specs.Found.{IsValidDiagram, IsValidMap};
-ghost use Rattle.degeneracy.specs.DegeneracyTrees.{IsDegeneracyMap, IsDegeneracyTree, IsMapWith};
+ghost use Rattle.degeneracy.specs.DegeneracyTrees.{IsDegeneracyMap, IsDegeneracyTree};
 ghost use Rattle.degeneracy.specs.DegeneracyKeeps.{AreDegeneracies, Decides};
 ghost use Rattle.degeneracy.specs.DegeneracyShapes.{HasDegenerateRegs, HasDegenerateSings, IsDegenerateWhereMissed, HasDegenerateMissed};
 
 use crate::degeneracy_kept::DegeneracyKept;
 use hashcons::{AnyId, ArrowId, Store};
 use std::alloc::{AllocError, Global};
-use zigzag_maps::{Map, bwd_map, compose, dual_from, fwd_map, reg_slice, sing_slice};
+use zigzag_maps::{
+    Map, bwd_map, compose, dual_from, dual_of, fwd_map, reg_slice, sing_slice,
+};
 
-/// Whether a map is a degeneracy.
+/// Whether a map is a degeneracy. Degeneracies compose and are mono (`degeneracies_compose` and
+/// `degeneracies_are_mono` of `degeneracy_laws`), and a map with an inverse is an identity
+/// (`invertible_arrows_are_identities` of `map_laws`).
 pub fn is_degeneracy(alloc: Global, store: &mut Store, f: Map) -> Result<bool, AllocError>
     requires { IsValidMap store.old f }
     ensures grows { Grows store.old store.new }
@@ -211,7 +215,7 @@ fn edges_are_degeneracies(
     ensures { Decides store.old store.new kept.new (IsDegenerateWhereMissed (diagram_at store.old f.source)
         (diagram_at store.old f.target) (arrow_at store.old f.arrow) k) result }
 {
-    let first = dual_from(store, f.arrow, 0, k);
+    let first = dual_of(store, f.arrow, k);
     if first != dual_from(store, f.arrow, first, next) {
         return Ok(true);
     }

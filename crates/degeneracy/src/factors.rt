@@ -15,7 +15,8 @@ use smallvec::SmallVec;
 use std::alloc::{AllocError, Global};
 use zigzag_maps::{Map, dual_from};
 
-/// The one map `g` after which `e` is `f`, and none exactly where there is none.
+/// The one map `g` after which `e` is `f`, and none exactly where there is none. That there is one at
+/// most is a law (`degeneracies_are_mono` of `degeneracy_laws`).
 pub fn factor(alloc: Global, store: &mut Store, f: Map, e: Map) -> Result<Option<Map>, AllocError>
     requires valid { IsValidMap store.old f }
     requires through { IsValidMap store.old e }

@@ -5,6 +5,8 @@ mod degeneracies;
 mod degeneracy_kept;
 mod factor_kept;
 mod factors;
+mod parts;
 
 pub use degeneracies::is_degeneracy;
 pub use factors::factor;
+pub use parts::split;

@@ -156,8 +156,8 @@ edge_is_degeneracy-is_degeneracy_once-requires t c =
     let e = ap dimension_of (g.diagram_trees c.args.slice.source c.requires.inner.source.of_store) in
     (search rules, (edge.valid, (omega arith, (degeneracies-grow _ _ _ g c.requires.kept, g.store c.requires.store))))
 
-pub edge_is_degeneracy-compose-edge-requires-clause-meet : goal.edge_is_degeneracy-compose-edge-requires-clause-meet
-edge_is_degeneracy-compose-edge-requires-clause-meet t c =
+pub edge_is_degeneracy-compose-requires-clause-meet : goal.edge_is_degeneracy-compose-requires-clause-meet
+edge_is_degeneracy-compose-requires-clause-meet t c =
     one_id c.args.store.now c.args.slice.target c.args.leg.source c.requires.store c.requires.inner.target.of_store c.requires.outer.source.of_store c.requires.meet
 
 pub edges_are_degeneracies-dual_from-requires-clause-within : goal.edges_are_degeneracies-dual_from-requires-clause-within
@@ -258,7 +258,7 @@ edges_are_degeneracies-returns t c =
     let pt = g.diagram_trees _ bwd.valid.target.of_store ∙ bwd.is.target in
     let px = g.arrow_trees _ bwd.valid.arrow ∙ bwd.is.arrow in
     let py = g.arrow_trees _ behind.valid.arrow ∙ behind.is.arrow ∙ ap (reg_at (arrow_at now c.args.f.arrow)) c.requires.next in
-    let missed = sym c.dual_from-first.ensures ∙ c.if-first-dual_from.false ∙ c.dual_from.ensures ∙ ap (dual hs) c.requires.next in
+    let missed = sym c.dual_of-first.ensures ∙ c.if-first-dual_from.false ∙ c.dual_from.ensures ∙ ap (dual hs) c.requires.next in
     record {
       grows = Grows-trans _ _ _ g two.grows;
       right = two.right;
