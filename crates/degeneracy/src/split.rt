@@ -283,7 +283,7 @@ fn parallel_part(alloc: Global, store: &mut Store, f: Map) -> Result<ArrowId, Al
 }
 
 /// The heights below `n`, in order.
-#[tactic(auto, using(zigzag_maps::proofs::IdentityLemmas::upto_more))]
+#[tactic(auto, using(zigzag_maps::proofs::IdentitySlices::upto_more))]
 fn heights_below(alloc: Global, n: usize) -> Result<SmallVec<usize, 4>, AllocError>
     ensures { IfOk result (λ heights. heights.items ≡ upto n) }
 {

@@ -6,7 +6,7 @@ use Rattle.std.specs.Bool.{Decides}
 use Rattle.std.proofs.lemmas.Bool.Decides.{Decides-eqb}
 use Rattle.std.proofs.lemmas.Slice.Eq.{slice_eq-Decides}
 use Rattle.std.proofs.lemmas.List.{map_push, length-map, get_or_append_left, take_min, take_more, drop_min, take-map, take-append-le}
-use Rattle.hashcons.proofs.TableLemmas.{below_head, below_tail, AreBelow-more}
+use Rattle.hashcons.proofs.TableTrees.{below_head, below_tail, AreBelow-more}
 use Rattle.std.proofs.lemmas.Option.{same_Some}
 use Rattle.smallvec.specs.SmallVec.{SmallVec}
 use Rattle.indexmap.specs.IndexSet.{insert_key, insert_all}

@@ -17,9 +17,9 @@ use Rattle.hashcons.specs.declared.view.DiagramView.TheVariants as d
 use Rattle.hashcons.specs.Contents.{Contents, IsStore, IsDiagramOf, IsArrowOf, diagram_at, arrow_at}
 use Rattle.hashcons.specs.Nodes.{tree_of_arrow, tree_of_diagram, IsArrowOver, IsDiagramOver}
 use Rattle.hashcons.specs.Listing.{IsListing, Visits, AreOfOneDimension, first_dimension}
-use Rattle.hashcons.proofs.TableLemmas.{length-picked, get_or-picked}
-use Rattle.hashcons.proofs.ViewLemmas.{first_slice, first_arrow}
-use Rattle.hashcons.proofs.ListLemmas.{visits-none, visits-append}
+use Rattle.hashcons.proofs.TableTrees.{length-picked, get_or-picked}
+use Rattle.hashcons.proofs.FirstSlices.{first_slice, first_arrow}
+use Rattle.hashcons.proofs.ListingGrows.{visits-none, visits-append}
 
 -- ids of which each has one dimension less than n
 pub record AreLower (ts : List Tree) (n : ℕ) (ids : List ℕ) : Type 0 where

@@ -12,9 +12,9 @@ use Rattle.diagram_terms.specs.Operations.{identity_tree, composite_tree}
 use Rattle.hashcons.specs.Made.{Makes, MakesArrow, MakesArrows}
 use Rattle.hashcons.specs.Nodes.{AreArrowChildren}
 use Rattle.smallvec.specs.SmallVec.{SmallVec}
-use Rattle.hashcons.proofs.TableLemmas.{length-picked, get_or-picked}
-use Rattle.hashcons.proofs.ContentsLemmas.{Grows-refl, KeepsNotes-trans}
-use Rattle.hashcons.proofs.FillLemmas.{id-kept}
+use Rattle.hashcons.proofs.TableTrees.{length-picked, get_or-picked}
+use Rattle.hashcons.proofs.OneMoreTree.{Grows-refl, KeepsNotes-trans}
+use Rattle.hashcons.proofs.PlacedIds.{id-kept}
 
 pub Grows-trans : (a b c : Contents) → Grows a b → Grows b c → Grows a c
 Grows-trans a b c g h = record {

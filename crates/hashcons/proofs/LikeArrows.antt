@@ -12,8 +12,8 @@ use Rattle.hashcons.specs.Blocks.{IsPut}
 use Rattle.hashcons.specs.Contents.{Contents, Notes, IsArrowOf, AddsArrow, Grows, arrow_at}
 use Rattle.hashcons.specs.Nodes.{tree_of_arrow, described_like}
 use Rattle.hashcons.specs.Tables.{arrow_trees, contents_of, AreTables}
-use Rattle.hashcons.proofs.TableLemmas.{element, slice_get-below}
-use Rattle.hashcons.proofs.PutLemmas.{ReadsArrow, Holds, reads_arrow, length-arrow_trees, stores_arrow}
+use Rattle.hashcons.proofs.TableTrees.{element, slice_get-below}
+use Rattle.hashcons.proofs.PutTrees.{ReadsArrow, Holds, reads_arrow, length-arrow_trees, stores_arrow}
 
 -- an arrow above dimension 0, by its lists
 pub record LikeParts (c : Contents) (arrows : List ArrowView) (like : ℕ) : Type 0 where

@@ -22,8 +22,8 @@ use Rattle.hashcons.specs.Contents.{Contents, IsStore, diagram_at, arrow_at}
 use Rattle.hashcons.specs.Nodes.{tree_of_arrow, tree_of_diagram, IsArrowOver, IsDiagramOver}
 use Rattle.hashcons.specs.Ids.{IsOf, tree_of, id_at}
 use Rattle.hashcons.specs.Listing.{AreOf, listed, IsListing, StandsIn, IsFirstPlace, AllStandIn, ArePlacesOf, diagram_ids, arrow_ids}
-use Rattle.hashcons.proofs.TableLemmas.{slice_get-below}
-use Rattle.hashcons.proofs.IdLemmas.{same_iff}
+use Rattle.hashcons.proofs.TableTrees.{slice_get-below}
+use Rattle.hashcons.proofs.IdsOfTrees.{same_iff}
 
 -- ---- ids of one kind
 

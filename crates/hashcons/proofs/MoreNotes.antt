@@ -11,8 +11,8 @@ use Rattle.hashcons.specs.NoteTables.{notes_of, normals_of, key_of, normal_of}
 use Rattle.hashcons.specs.Contents.{Contents, IsIdentityOf, IsCompositeOf, IsValidDiagram, IsValidTriple, IsNormalOf}
 use Rattle.hashcons.specs.Notes.{Notes, Key, Normal, NotesMore, HasMore, same_pair, same_triple, same_key}
 use Rattle.hashcons.specs.Tables.{contents_of, AreTables}
-use Rattle.hashcons.proofs.NoteLemmas.{exact_number, exact_pair, exact_triple, exact_key, same_number-refl, same_pair-refl, same_key-refl, more_from, notes-all, all-stay, one_noted, noted_so, members-all, members-stay, one_identity, one_composite, Renotes, renotes}
-use Rattle.hashcons.proofs.NoteTableLemmas.{key_test, normals-known, normals-updates}
+use Rattle.hashcons.proofs.OneMoreNote.{exact_number, exact_pair, exact_triple, exact_key, same_number-refl, same_pair-refl, same_key-refl, more_from, notes-all, all-stay, one_noted, noted_so, members-all, members-stay, one_identity, one_composite, Renotes, renotes}
+use Rattle.hashcons.proofs.TablesOfNotes.{key_test, normals-known, normals-updates}
 
 module _ (arrows : List ArrowView) (diagrams : List DiagramView) (notes : Notes) (tables : AreTables arrows diagrams notes) where
   abbrev here : Contents

@@ -28,7 +28,7 @@ use Rattle.hashcons.specs.Tables.{arrow_trees, diagram_trees, contents_of, AreTa
 use Rattle.hashcons.proofs.Blocks.{numbers_decide, among-below}
 use Rattle.hashcons.proofs.Counted.{PartOf, split, flat-from, among-map, lists_counted, blocks_counted}
 use Rattle.hashcons.proofs.Distinct.{among-head, among-left, among-right, slice-unmap}
-use Rattle.hashcons.proofs.PutLemmas.{reads_arrow, reads_diagram, length-arrow_trees, length-diagram_trees}
+use Rattle.hashcons.proofs.PutTrees.{reads_arrow, reads_diagram, length-arrow_trees, length-diagram_trees}
 
 trees_decide : (ts us : List Tree) → Decides (same_trees ts us) (ts ≡ us)
 trees_decide ts us = slice_eq-Decides same_tree_decides ts us (same_trees ts us) refl

@@ -13,7 +13,7 @@ use diagram_terms::Label;
 /// Calls that read one part of a node. None takes memory.
 impl Store {
     /// The length of a diagram: the count of its singular slices, 0 for a label.
-    #[tactic(auto, using(crate::proofs::PickLemmas::picks))]
+    #[tactic(auto, using(crate::proofs::PartsOfNodes::picks))]
     pub fn length(&self, d: DiagramId) -> usize
         requires of_store { IsDiagramOf self.now d }
         ensures length { result ≡ length (sings (diagram_at self.now d)) }
@@ -26,7 +26,7 @@ impl Store {
     }
 
     /// The label of a diagram of dimension 0.
-    #[tactic(auto, using(crate::proofs::PickLemmas::picks))]
+    #[tactic(auto, using(crate::proofs::PartsOfNodes::picks))]
     pub fn label(&self, d: DiagramId) -> Label
         requires of_store { IsDiagramOf self.now d }
         requires zero { dimension_of (diagram_at self.now d) ≡ 0 }
@@ -39,7 +39,7 @@ impl Store {
     }
 
     /// A regular slice of a diagram.
-    #[tactic(auto, using(crate::proofs::PickLemmas::picks))]
+    #[tactic(auto, using(crate::proofs::PartsOfNodes::picks))]
     pub fn reg(&self, d: DiagramId, at: usize) -> DiagramId
         requires of_store { IsDiagramOf self.now d }
         requires within { at < length (regs (diagram_at self.now d)) }
@@ -53,7 +53,7 @@ impl Store {
     }
 
     /// A singular slice of a diagram.
-    #[tactic(auto, using(crate::proofs::PickLemmas::picks))]
+    #[tactic(auto, using(crate::proofs::PartsOfNodes::picks))]
     pub fn sing(&self, d: DiagramId, at: usize) -> DiagramId
         requires of_store { IsDiagramOf self.now d }
         requires within { at < length (sings (diagram_at self.now d)) }
@@ -69,7 +69,7 @@ impl Store {
     }
 
     /// The leg forward into a singular slice.
-    #[tactic(auto, using(crate::proofs::PickLemmas::picks))]
+    #[tactic(auto, using(crate::proofs::PartsOfNodes::picks))]
     pub fn fwd(&self, d: DiagramId, at: usize) -> ArrowId
         requires of_store { IsDiagramOf self.now d }
         requires within { at < length (fwds (diagram_at self.now d)) }
@@ -83,7 +83,7 @@ impl Store {
     }
 
     /// The leg backward into a singular slice.
-    #[tactic(auto, using(crate::proofs::PickLemmas::picks))]
+    #[tactic(auto, using(crate::proofs::PartsOfNodes::picks))]
     pub fn bwd(&self, d: DiagramId, at: usize) -> ArrowId
         requires of_store { IsDiagramOf self.now d }
         requires within { at < length (bwds (diagram_at self.now d)) }
@@ -97,7 +97,7 @@ impl Store {
     }
 
     /// Both labels of an arrow of dimension 0.
-    #[tactic(auto, using(crate::proofs::PickLemmas::picks))]
+    #[tactic(auto, using(crate::proofs::PartsOfNodes::picks))]
     pub fn pair(&self, a: ArrowId) -> (Label, Label)
         requires of_store { IsArrowOf self.now a }
         requires zero { dimension_of (arrow_at self.now a) ≡ 0 }
@@ -110,7 +110,7 @@ impl Store {
     }
 
     /// The length of an arrow's source: the count of the arrow's heights.
-    #[tactic(auto, using(crate::proofs::PickLemmas::picks))]
+    #[tactic(auto, using(crate::proofs::PartsOfNodes::picks))]
     pub fn source_len(&self, a: ArrowId) -> usize
         requires of_store { IsArrowOf self.now a }
         requires above { 0 < dimension_of (arrow_at self.now a) }
@@ -124,7 +124,7 @@ impl Store {
     }
 
     /// The length of an arrow's target: one less than the count of the arrow's regular slices.
-    #[tactic(auto, using(crate::proofs::PickLemmas::picks))]
+    #[tactic(auto, using(crate::proofs::PartsOfNodes::picks))]
     pub fn target_len(&self, a: ArrowId) -> usize
         requires of_store { IsArrowOf self.now a }
         requires above { 0 < dimension_of (arrow_at self.now a) }
@@ -138,7 +138,7 @@ impl Store {
     }
 
     /// The count of an arrow's regular slices: one more than the length of its target.
-    #[tactic(auto, using(crate::proofs::PickLemmas::picks))]
+    #[tactic(auto, using(crate::proofs::PartsOfNodes::picks))]
     pub fn regs_len(&self, a: ArrowId) -> usize
         requires of_store { IsArrowOf self.now a }
         requires above { 0 < dimension_of (arrow_at self.now a) }
@@ -151,7 +151,7 @@ impl Store {
     }
 
     /// Where an arrow sends a height of its source.
-    #[tactic(auto, using(crate::proofs::PickLemmas::picks))]
+    #[tactic(auto, using(crate::proofs::PartsOfNodes::picks))]
     pub fn height(&self, a: ArrowId, at: usize) -> usize
         requires of_store { IsArrowOf self.now a }
         requires above { 0 < dimension_of (arrow_at self.now a) }
@@ -165,7 +165,7 @@ impl Store {
     }
 
     /// A regular slice of an arrow.
-    #[tactic(auto, using(crate::proofs::PickLemmas::picks))]
+    #[tactic(auto, using(crate::proofs::PartsOfNodes::picks))]
     pub fn arrow_reg(&self, a: ArrowId, at: usize) -> ArrowId
         requires of_store { IsArrowOf self.now a }
         requires above { 0 < dimension_of (arrow_at self.now a) }
@@ -180,7 +180,7 @@ impl Store {
     }
 
     /// A singular slice of an arrow.
-    #[tactic(auto, using(crate::proofs::PickLemmas::picks))]
+    #[tactic(auto, using(crate::proofs::PartsOfNodes::picks))]
     pub fn arrow_sing(&self, a: ArrowId, at: usize) -> ArrowId
         requires of_store { IsArrowOf self.now a }
         requires above { 0 < dimension_of (arrow_at self.now a) }
@@ -209,7 +209,7 @@ impl Store {
         }
     }
 
-    #[tactic(auto, using(crate::proofs::PickLemmas::picks))]
+    #[tactic(auto, using(crate::proofs::PartsOfNodes::picks))]
     fn diagram_dim(&self, d: DiagramId) -> usize
         requires of_store { IsDiagramOf self.now d }
         ensures dim { result ≡ dimension_of (diagram_at self.now d) }
@@ -221,7 +221,7 @@ impl Store {
         }
     }
 
-    #[tactic(auto, using(crate::proofs::PickLemmas::picks))]
+    #[tactic(auto, using(crate::proofs::PartsOfNodes::picks))]
     fn arrow_dim(&self, a: ArrowId) -> usize
         requires of_store { IsArrowOf self.now a }
         ensures dim { result ≡ dimension_of (arrow_at self.now a) }

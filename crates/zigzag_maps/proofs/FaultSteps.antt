@@ -20,9 +20,9 @@ use Rattle.zigzag_maps.specs.declared.map.Map.{Map}
 use Rattle.zigzag_maps.specs.Found.{IsValidDiagram, IsValidMap}
 use Rattle.diagram_terms.specs.ValidTrees.{IsValidTreeAt, IsValidTree}
 use Rattle.zigzag_maps.specs.Visits.{IsMapAt, FitsEnds, reg_tests, sing_tests}
-use Rattle.hashcons.proofs.ContentsLemmas.{Grows-refl}
+use Rattle.hashcons.proofs.OneMoreTree.{Grows-refl}
 use Rattle.hashcons.proofs.Growth.{Grows-trans, store-kept, diagram-kept, arrow-kept}
-use Rattle.zigzag_maps.proofs.VisitLemmas.{between_from, between_passes, ends_place}
+use Rattle.zigzag_maps.proofs.TestsOfArrows.{between_from, between_passes, ends_place}
 
 -- ---- a store that grew
 

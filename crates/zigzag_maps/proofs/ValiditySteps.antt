@@ -4,14 +4,14 @@ use Rattle.diagram_terms.specs.Tree.{Tree, sings}
 use Rattle.diagram_terms.specs.Shape.{IsDiagram, IsArrow, reg_at, sing_at, fwd_at, bwd_at}
 use Rattle.diagram_terms.specs.Places.{first_failure}
 use Rattle.hashcons.specs.Contents.{Contents, Grows, IsDiagramOf, IsArrowOf, diagram_at, arrow_at}
-use Rattle.hashcons.proofs.ContentsLemmas.{Grows-refl}
+use Rattle.hashcons.proofs.OneMoreTree.{Grows-refl}
 use Rattle.hashcons.proofs.Growth.{Grows-trans, store-kept, diagram-kept, arrow-kept}
 use Rattle.zigzag_maps.specs.declared.map.Map.{Map}
 use Rattle.zigzag_maps.specs.Found.{IsValidDiagram}
 use Rattle.diagram_terms.specs.ValidTrees.{IsValidTreeAt}
 use Rattle.zigzag_maps.specs.Visits.{IsMapAt}
 use Rattle.zigzag_maps.specs.DiagramTests.{IsDiagramAt, HasValidParts, tests_in}
-use Rattle.zigzag_maps.proofs.ValidityLemmas.{valid_from, valid_passes}
+use Rattle.zigzag_maps.proofs.TestsByParts.{valid_from, valid_passes}
 
 -- ---- a store that grew
 

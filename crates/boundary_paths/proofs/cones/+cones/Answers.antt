@@ -6,7 +6,7 @@ use Rattle.diagram_terms.proofs.Dimensions.{diagram_dimension}
 use Rattle.hashcons.specs.Contents.{diagram_at}
 use Rattle.hashcons.proofs.Growth.{Grows-trans, Makes-last, gathers-arrow_more}
 use Rattle.zigzag_maps.proofs.ValiditySteps.{is_diagram_at-grows, reg_slice, sing_slice}
-use Rattle.boundary_paths.proofs.ConeLemmas.{IsArrowTree-cone_tree}
+use Rattle.boundary_paths.proofs.ConesBySlices.{IsArrowTree-cone_tree}
 use Rattle.boundary_paths.proofs.ConeSteps.{described_cone, cone_made, described_type, cone_of_slice, cones-grow}
 use Rattle.boundary_paths.proofs.cones.+cones.Goals as goal
 

@@ -8,9 +8,9 @@ use Rattle.diagram_terms.proofs.Decisions.{dual_next}
 use Rattle.diagram_terms.proofs.Dimensions.{dimension_of-arrow_reg, dimension_of-arrow_sing}
 use Rattle.hashcons.specs.Contents.{arrow_at, diagram_at}
 use Rattle.diagram_terms.specs.Operations.{composite_tree}
-use Rattle.hashcons.proofs.ContentsLemmas.{Grows-refl}
+use Rattle.hashcons.proofs.OneMoreTree.{Grows-refl}
 use Rattle.hashcons.proofs.Growth.{Grows-trans}
-use Rattle.zigzag_maps.proofs.KeepLemmas.{valid_map-grows}
+use Rattle.zigzag_maps.proofs.KeptMaps.{valid_map-grows}
 use Rattle.degeneracy.specs.DegeneracyTrees.{IsDegeneracyMap, IsDegeneracyTree}
 use Rattle.degeneracy.specs.DegeneracyShapes.{HasDegenerateSings, HasDegenerateMissed, IsDegenerateWhereMissed}
 use Rattle.zigzag_maps.proofs.ValidArrows.{valid_parts, arrow_sings_len, source_dimension, target_dimension}

@@ -3,7 +3,7 @@ use Rattle.diagram_terms.specs.Dimension.{dimension_of}
 use Rattle.diagram_terms.specs.Tree.{Tree, regs}
 use Rattle.hashcons.specs.Gathers.{Gathers}
 use Rattle.hashcons.proofs.Growth.{Grows-trans, gathers-arrows_grow}
-use Rattle.zigzag_maps.proofs.KeepLemmas.{valid_map-grows}
+use Rattle.zigzag_maps.proofs.KeptMaps.{valid_map-grows}
 use Rattle.zigzag_maps.proofs.SliceMaps.{fact_after}
 use Rattle.degeneracy.specs.SplitTrees.{simple_reg, middle_tree, simple_tree, parallel_tree}
 use Rattle.degeneracy.proofs.PartsInStore.{made_parts}

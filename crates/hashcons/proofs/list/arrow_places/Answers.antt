@@ -1,6 +1,6 @@
 use Rattle.std.proofs.Common.{◌<◌, length, arith}
-use Rattle.hashcons.proofs.PlaceLemmas.{arrow_stands, arrow_places-more}
-use Rattle.hashcons.proofs.ViewLemmas.{entry_read}
+use Rattle.hashcons.proofs.ListingPlaces.{arrow_stands, arrow_places-more}
+use Rattle.hashcons.proofs.FirstSlices.{entry_read}
 use Rattle.hashcons.proofs.list.arrow_places.Goals as goal
 
 pub place_of-requires : goal.place_of-requires

@@ -1,6 +1,6 @@
 use Rattle.std.proofs.Common.{◌<◌, length, arith}
-use Rattle.hashcons.proofs.PlaceLemmas.{diagram_stands, diagram_places-more}
-use Rattle.hashcons.proofs.ViewLemmas.{entry_read}
+use Rattle.hashcons.proofs.ListingPlaces.{diagram_stands, diagram_places-more}
+use Rattle.hashcons.proofs.FirstSlices.{entry_read}
 use Rattle.hashcons.proofs.list.diagram_places.Goals as goal
 
 pub place_of-requires : goal.place_of-requires

@@ -3,7 +3,7 @@ use Rattle.std.proofs.lemmas.Result.{err_from_is_err_and}
 use Rattle.diagram_terms.specs.declared.node.Node.{Node}
 use Rattle.diagram_terms.specs.Nodes.{tree_at}
 use Rattle.hashcons.specs.Ids.{GathersIds}
-use Rattle.hashcons.proofs.FillLemmas.{ids-grow}
+use Rattle.hashcons.proofs.PlacedIds.{ids-grow}
 use Rattle.node_json.specs.declared.document.DiagramEntry.{DiagramEntry}
 use Rattle.io_edge.specs.declared.whole.WriteAllFault.TheVariants.{WriteFault}
 use Rattle.io_edge.proofs.Parts.{begun, not_begun, ended, cut_off, stopped, one_more}

@@ -1,7 +1,7 @@
 use Rattle.std.proofs.Common.{sym, ap, option_map, ◌∙◌}
 use Rattle.diagram_terms.specs.declared.place.Place.{Place}
 use Rattle.hashcons.specs.Contents.{diagram_at}
-use Rattle.plain_maps.proofs.LooseLemmas.{loose_leg_is, no_leg_is_loose, legs_walk}
+use Rattle.plain_maps.proofs.LooseTests.{loose_leg_is, no_leg_is_loose, legs_walk}
 use Rattle.plain_maps.proofs.loose.first_loose.Goals as goal
 
 pub returns-clause-exact : goal.returns-clause-exact

@@ -6,7 +6,7 @@ use Rattle.hashcons.specs.declared.id.AnyId.TheVariants as id
 use Rattle.hashcons.specs.Contents.{arrow_at}
 use Rattle.hashcons.proofs.FoundStays.{one_more_found}
 use Rattle.plain_maps.specs.Plainness.{IsIdentityTree, HasIdentitySings}
-use Rattle.plain_maps.proofs.PlainLemmas.{identity_decides, identity_heights_fail, identity_regs_fail, sings_len, arrow_reg_slice, arrow_sing_slice, one_fails, all_pass}
+use Rattle.plain_maps.proofs.PlainSlices.{identity_decides, identity_heights_fail, identity_regs_fail, sings_len, arrow_reg_slice, arrow_sing_slice, one_fails, all_pass}
 use Rattle.plain_maps.proofs.plain_arrows.+identity_parts.Goals as goal
 
 pub has_identity_parts-returns-then-not-has_identity_heights-clause-exact : goal.has_identity_parts-returns-then-not-has_identity_heights-clause-exact

@@ -6,7 +6,7 @@ use Rattle.hashcons.specs.declared.id.AnyId.TheVariants as id
 use Rattle.hashcons.specs.Contents.{arrow_at}
 use Rattle.hashcons.proofs.FoundStays.{one_more_found}
 use Rattle.plain_maps.specs.Plainness.{IsPlainTree, HasPlainSings}
-use Rattle.plain_maps.proofs.PlainLemmas.{plain_zero, plain_decides, plain_regs_fail, sings_len, arrow_sing_slice, one_fails, all_pass}
+use Rattle.plain_maps.proofs.PlainSlices.{plain_zero, plain_decides, plain_regs_fail, sings_len, arrow_sing_slice, one_fails, all_pass}
 use Rattle.plain_maps.proofs.plain_arrows.+plain_parts.Goals as goal
 
 pub has_plain_parts-returns-then-dim-eq0-clause-exact : goal.has_plain_parts-returns-then-dim-eq0-clause-exact

@@ -8,14 +8,14 @@ use Rattle.diagram_terms.proofs.Dimensions.{arrow_dimension}
 use Rattle.diagram_terms.proofs.Duals.{dual-le-length}
 use Rattle.zigzag_maps.proofs.Visiting.{visit_start, visit_fails, visit_passes, visit_last}
 use Rattle.hashcons.specs.Contents.{diagram_at, arrow_at}
-use Rattle.hashcons.proofs.ContentsLemmas.{Grows-refl}
+use Rattle.hashcons.proofs.OneMoreTree.{Grows-refl}
 use Rattle.hashcons.proofs.Growth.{Grows-trans}
 use Rattle.zigzag_maps.specs.Visits.{reg_tests, sing_tests, square_tests}
-use Rattle.zigzag_maps.proofs.CompositeLemmas.{zero_dual}
+use Rattle.zigzag_maps.proofs.CompositeSlices.{zero_dual}
 use Rattle.zigzag_maps.proofs.CompositeSteps.{dual_rises}
 use Rattle.zigzag_maps.proofs.EdgeSteps.{slicewise-grows}
 use Rattle.zigzag_maps.proofs.FaultSteps.{map_at-grows, map_trees, fits-grows, map_lengths, reg_slice, reg_found, sing_slice, sing_found, valid_map_passes, valid_map_from}
-use Rattle.zigzag_maps.proofs.VisitLemmas.{not_fit, fits_from, reg_fails, sing_fails, squares_decide, slices_valid}
+use Rattle.zigzag_maps.proofs.TestsOfArrows.{not_fit, fits_from, reg_fails, sing_fails, squares_decide, slices_valid}
 use Rattle.zigzag_maps.proofs.faults.+faults.Goals as goal
 
 -- ---- an arrow, worked out once

@@ -1,7 +1,7 @@
 use Rattle.std.proofs.Common.{refl, sym, ◌∙◌}
 use Rattle.hashcons.specs.Contents.{diagram_at}
 use Rattle.zigzag_maps.specs.declared.outcome.SquareTest.TheVariants as test
-use Rattle.zigzag_maps.proofs.ValidityLemmas.{first_in, tests_walk}
+use Rattle.zigzag_maps.proofs.TestsByParts.{first_in, tests_walk}
 use Rattle.zigzag_maps.proofs.ValiditySteps.{kept_passes}
 use Rattle.zigzag_maps.proofs.Verdicts.{yes_is_validity}
 use Rattle.zigzag_maps.proofs.validity.valid.Goals as goal

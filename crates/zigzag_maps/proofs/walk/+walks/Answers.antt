@@ -8,7 +8,7 @@ use Rattle.hashcons.specs.Contents.{IsDiagramOf, diagram_at}
 use Rattle.hashcons.proofs.Growth.{Grows-trans}
 use Rattle.zigzag_maps.specs.Walks.{PassesTests, tests_in_part, tests_to_part}
 use Rattle.zigzag_maps.proofs.ValiditySteps.{reg_slice, sing_slice}
-use Rattle.zigzag_maps.proofs.WalkLemmas.{before_legs, regs_len}
+use Rattle.zigzag_maps.proofs.SlicesBeforeLegs.{before_legs, regs_len}
 use Rattle.zigzag_maps.proofs.walk.+walks.Goals as goal
 
 pub first_in-pass-requires-clause-passes : goal.first_in-pass-requires-clause-passes

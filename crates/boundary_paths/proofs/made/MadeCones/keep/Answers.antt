@@ -1,7 +1,7 @@
 use Rattle.std.proofs.Common.{nat_eq, sym, ap, ◌∙◌}
 use Rattle.std.specs.Map.{lookup}
 use Rattle.std.proofs.lemmas.Map.Views.{exact_unsigned_eq}
-use Rattle.hashcons.proofs.NoteLemmas.{puts-all}
+use Rattle.hashcons.proofs.OneMoreNote.{puts-all}
 use Rattle.boundary_paths.specs.Cones.{IsConeOf}
 use Rattle.boundary_paths.proofs.made.MadeCones.keep.Goals as goal
 

@@ -1,5 +1,5 @@
 use Rattle.std.proofs.Common.{arith}
-use Rattle.hashcons.proofs.ViewLemmas.{entry_read, first_slice}
+use Rattle.hashcons.proofs.FirstSlices.{entry_read, first_slice}
 use Rattle.hashcons.proofs.store.Store.+diagram_dim.Goals as goal
 
 pub at-requires : goal.at-requires

@@ -1,8 +1,8 @@
 use Rattle.std.proofs.Common.{◌∙◌, ◌<◌, length, sym, arith}
 use Rattle.std.proofs.lemmas.Result.{on_ok_weaker}
 use Rattle.hashcons.specs.declared.id.AnyId.TheVariants as id
-use Rattle.hashcons.proofs.ListLemmas.{visits-there, visits-insert, visits-more}
-use Rattle.hashcons.proofs.ViewLemmas.{entry_read}
+use Rattle.hashcons.proofs.ListingGrows.{visits-there, visits-insert, visits-more}
+use Rattle.hashcons.proofs.FirstSlices.{entry_read}
 use Rattle.hashcons.proofs.Completing.{diagram_visit, label_visit, visits_parts}
 use Rattle.hashcons.proofs.store.Store.+visit_diagrams.Goals as goal
 

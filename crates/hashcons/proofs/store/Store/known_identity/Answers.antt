@@ -1,6 +1,6 @@
 use Rattle.std.proofs.Common.{subst, IfSome, ◌∙◌}
 use Rattle.hashcons.specs.Contents.{IsIdentityOf}
-use Rattle.hashcons.proofs.NoteLemmas.{right_where_some}
+use Rattle.hashcons.proofs.OneMoreNote.{right_where_some}
 use Rattle.hashcons.proofs.store.Store.known_identity.Goals as goal
 
 pub returns-clause-right : goal.returns-clause-right

@@ -4,7 +4,7 @@ use Rattle.hashcons.specs.Contents.{IsNormalOf}
 use Rattle.hashcons.specs.NoteTables.{key_of, normal_of, normals_of}
 use Rattle.hashcons.specs.Notes.{same_key}
 use Rattle.std.specs.Map.{lookup}
-use Rattle.hashcons.proofs.NoteTableLemmas.{normals-lookup, normals-copied, normals-right}
+use Rattle.hashcons.proofs.TablesOfNotes.{normals-lookup, normals-copied, normals-right}
 use Rattle.hashcons.proofs.store.Store.known_normal.Goals as goal
 
 value : (c : goal.After-get) → option_map (λ m. normal_of m.now) c.get.result ≡ lookup (same_key (key_of c.args.key.now)) (normals_of c.self.inside.notes.normals.entries)

@@ -1,5 +1,5 @@
 use Rattle.std.proofs.Common.{arith}
-use Rattle.hashcons.proofs.ViewLemmas.{first_slice}
+use Rattle.hashcons.proofs.FirstSlices.{first_slice}
 use Rattle.hashcons.proofs.store.Store.label.Goals as goal
 
 pub unreachable-requires : goal.unreachable-requires

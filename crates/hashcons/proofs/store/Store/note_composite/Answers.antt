@@ -5,7 +5,7 @@ use Rattle.hashcons.specs.NoteTables.{notes_of}
 use Rattle.hashcons.specs.Tables.{contents_of}
 use Rattle.hashcons.specs.Notes.{same_pair}
 use Rattle.hashcons.proofs.MoreNotes.{no_other_composite, composite_more, composite_noted, composite_renotes}
-use Rattle.hashcons.proofs.NoteLemmas.{put_again, Renotes}
+use Rattle.hashcons.proofs.OneMoreNote.{put_again, Renotes}
 use Rattle.hashcons.proofs.store.Store.note_composite.Goals as goal
 
 abbrev here : goal.In_ok-insert → Contents

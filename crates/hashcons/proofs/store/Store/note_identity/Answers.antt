@@ -4,7 +4,7 @@ use Rattle.hashcons.specs.Contents.{Contents, IsIdentityOf}
 use Rattle.hashcons.specs.NoteTables.{notes_of}
 use Rattle.hashcons.specs.Tables.{contents_of}
 use Rattle.hashcons.proofs.MoreNotes.{no_other_identity, identity_more, identity_noted, identity_renotes}
-use Rattle.hashcons.proofs.NoteLemmas.{put_again, Renotes}
+use Rattle.hashcons.proofs.OneMoreNote.{put_again, Renotes}
 use Rattle.std.proofs.Common.{nat_eq}
 use Rattle.hashcons.proofs.store.Store.note_identity.Goals as goal
 

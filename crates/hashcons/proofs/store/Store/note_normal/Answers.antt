@@ -3,7 +3,7 @@ use Rattle.hashcons.specs.Entries.{arrow_views, diagram_views}
 use Rattle.hashcons.specs.NoteTables.{notes_of, key_of, normal_of}
 use Rattle.hashcons.specs.Notes.{same_key}
 use Rattle.hashcons.proofs.MoreNotes.{normal_known, normal_noted}
-use Rattle.hashcons.proofs.NoteLemmas.{exact_key, same_key-refl, more_already}
+use Rattle.hashcons.proofs.OneMoreNote.{exact_key, same_key-refl, more_already}
 use Rattle.hashcons.proofs.store.Store.note_normal.Goals as goal
 
 pub returns-then-contains_key-clause-more : goal.returns-then-contains_key-clause-more

@@ -4,7 +4,7 @@ use Rattle.hashcons.specs.Contents.{Contents, IsValidDiagram}
 use Rattle.hashcons.specs.NoteTables.{notes_of}
 use Rattle.hashcons.specs.Tables.{contents_of}
 use Rattle.hashcons.proofs.MoreNotes.{valid_renotes}
-use Rattle.hashcons.proofs.NoteLemmas.{put_member_again, Renotes}
+use Rattle.hashcons.proofs.OneMoreNote.{put_member_again, Renotes}
 use Rattle.hashcons.proofs.store.Store.note_valid.Goals as goal
 
 abbrev here : goal.In_ok-insert → Contents

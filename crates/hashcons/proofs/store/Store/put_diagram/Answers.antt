@@ -1,7 +1,7 @@
 use Rattle.hashcons.specs.Entries.{arrow_views, diagram_views}
 use Rattle.hashcons.specs.NoteTables.{notes_of}
 use Rattle.hashcons.specs.Nodes.{viewed_diagram}
-use Rattle.hashcons.proofs.PutLemmas.{stores_diagram}
+use Rattle.hashcons.proofs.PutTrees.{stores_diagram}
 use Rattle.hashcons.proofs.store.Store.put_diagram.Goals as goal
 
 pub invariant_of-self-2 : goal.invariant_of-self-2

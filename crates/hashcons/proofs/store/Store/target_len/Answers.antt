@@ -1,5 +1,5 @@
 use Rattle.std.proofs.Common.{arith}
-use Rattle.hashcons.proofs.ViewLemmas.{first_arrow}
+use Rattle.hashcons.proofs.FirstSlices.{first_arrow}
 use Rattle.hashcons.proofs.store.Store.target_len.Goals as goal
 
 pub overflow_sub-result : goal.overflow_sub-result

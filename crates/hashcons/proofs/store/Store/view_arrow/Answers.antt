@@ -2,7 +2,7 @@ use Rattle.std.proofs.Common.{◌<◌, length, sym, subst, arith}
 use Rattle.hashcons.specs.Contents.{IsArrowOf}
 use Rattle.hashcons.specs.Entries.{arrow_views, diagram_views}
 use Rattle.hashcons.specs.Tables.{arrow_trees}
-use Rattle.hashcons.proofs.PutLemmas.{reads_arrow, length-arrow_trees}
+use Rattle.hashcons.proofs.PutTrees.{reads_arrow, length-arrow_trees}
 use Rattle.hashcons.proofs.store.Store.view_arrow.Goals as goal
 
 pub arrow-requires : goal.arrow-requires

@@ -2,7 +2,7 @@ use Rattle.std.proofs.Common.{◌<◌, length, sym, subst, arith}
 use Rattle.hashcons.specs.Contents.{IsDiagramOf}
 use Rattle.hashcons.specs.Entries.{arrow_views, diagram_views}
 use Rattle.hashcons.specs.Tables.{diagram_trees}
-use Rattle.hashcons.proofs.PutLemmas.{reads_diagram, length-diagram_trees}
+use Rattle.hashcons.proofs.PutTrees.{reads_diagram, length-diagram_trees}
 use Rattle.hashcons.proofs.store.Store.view_diagram.Goals as goal
 
 pub diagram-requires : goal.diagram-requires

@@ -1,4 +1,4 @@
-use Rattle.zigzag_maps.proofs.ValidityLemmas.{parts_valid}
+use Rattle.zigzag_maps.proofs.TestsByParts.{parts_valid}
 use Rattle.zigzag_maps.proofs.validity.NotingWalkStore.leg.Goals as goal
 
 pub fwd_fault-requires-clause-parts : goal.fwd_fault-requires-clause-parts

@@ -19,10 +19,10 @@ use Rattle.diagram_terms.proofs.Parts.{comp-from, comp-to, comp-heights, comp-re
 use Rattle.diagram_terms.proofs.Shapes.{IsArrow-ends, IsArrow-zag, one_diagram_dimension}
 use Rattle.diagram_terms.specs.Operations.{composite_tree}
 use Rattle.diagram_terms.specs.ValidTrees.{AreComposableAt, AreComposable, IsArrowBetween}
-use Rattle.hashcons.proofs.ContentsLemmas.{Grows-refl}
+use Rattle.hashcons.proofs.OneMoreTree.{Grows-refl}
 use Rattle.diagram_terms.proofs.NotionsOnTrees.{on_arrow_at}
 use Rattle.hashcons.proofs.Growth.{Grows-trans, store-kept, diagram-kept, arrow-kept, diagram_at-kept, arrow_at-kept}
-use Rattle.zigzag_maps.proofs.IdentityLemmas.{slices_tab}
+use Rattle.zigzag_maps.proofs.IdentitySlices.{slices_tab}
 
 -- ---- heights
 

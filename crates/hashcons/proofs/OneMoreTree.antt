@@ -9,7 +9,7 @@ use Rattle.diagram_terms.specs.Operations.{identity_tree, composite_tree}
 use Rattle.diagram_terms.specs.ValidTrees.{IsValidTree, IsArrowBetween}
 use Rattle.hashcons.specs.Contents.{Contents, Notes, Key, Normal, KeepsNotes, IsDiagramOf, IsArrowOf, diagram_at, arrow_at, IsIdentityOf, IsCompositeOf, IsValidDiagram, IsValidTriple, IsLegOf, leg_of, IsNormalOf, AreNotes, Grows, IsStore, HasSlicesAmong, HasLegsAmong, HasArrowsAmong, with_arrow, with_diagram}
 use Rattle.hashcons.specs.NormalTrees.{TreeLeg, IsNormalTree}
-use Rattle.hashcons.proofs.TableLemmas.{at-push, at-last, push_cases, IsOnce-push, picked-agree}
+use Rattle.hashcons.proofs.TableTrees.{at-push, at-last, push_cases, IsOnce-push, picked-agree}
 
 -- a fact of each tree of a list by its place, and of one more
 more : (P : ℕ → Tree → Type 0) (ts : List Tree) (t : Tree) → ((i : ℕ) → i < length ts → P i (get_or ts i nil))

@@ -9,10 +9,10 @@ use Rattle.hashcons.specs.Blocks.{IsPut}
 use Rattle.hashcons.specs.Contents.{Contents, Notes, diagram_at, arrow_at, Grows, IsStore, AddsArrow, AddsDiagram, with_arrow, with_diagram}
 use Rattle.hashcons.specs.Nodes.{tree_of_arrow, tree_of_diagram, IsArrowOver, IsDiagramOver}
 use Rattle.hashcons.specs.Tables.{trees_from, AreGrounded, arrow_trees, diagram_trees, contents_of, AreTables}
-use Rattle.hashcons.proofs.TableLemmas.{AgreeBelow, length-trees_from, trees_from-push, trees_from-same, tree-reads, tree-new, AreGrounded-at, AreGrounded-push, AreGrounded-wider, slice_get-below, at-push}
-use Rattle.hashcons.proofs.NodeLemmas.{arrow-told, diagram-told, arrow-local, diagram-local, arrow-wider, diagram-wider, diagram-arrows, diagram-more_arrows}
-use Rattle.hashcons.proofs.ContentsLemmas.{Grows-refl, Grows-push_arrow, Grows-push_diagram, IsStore-push_arrow, IsStore-push_diagram}
-use Rattle.hashcons.proofs.ChildLemmas.{arrow-among, slices-among, legs-among, arrow-low, diagram-low}
+use Rattle.hashcons.proofs.TableTrees.{AgreeBelow, length-trees_from, trees_from-push, trees_from-same, tree-reads, tree-new, AreGrounded-at, AreGrounded-push, AreGrounded-wider, slice_get-below, at-push}
+use Rattle.hashcons.proofs.EqualNodes.{arrow-told, diagram-told, arrow-local, diagram-local, arrow-wider, diagram-wider, diagram-arrows, diagram-more_arrows}
+use Rattle.hashcons.proofs.OneMoreTree.{Grows-refl, Grows-push_arrow, Grows-push_diagram, IsStore-push_arrow, IsStore-push_diagram}
+use Rattle.hashcons.proofs.NodeChildren.{arrow-among, slices-among, legs-among, arrow-low, diagram-low}
 
 pub length-arrow_trees : (arrows : List ArrowView) → length (arrow_trees arrows) ≡ length arrows
 length-arrow_trees arrows = omega (arith, length-trees_from tree_of_arrow [] arrows)

@@ -23,7 +23,7 @@ use Rattle.zigzag_maps.proofs.Visiting.{same_each}
 use Rattle.plain_maps.specs.Plainness.{IsPlainTree, IsPlainDiagramTree, loose_leg, plain_tests_in, leg_test, legs_at, IsArrowAt}
 use Rattle.zigzag_maps.specs.Walks.{IsWalk, tests_to_part}
 use Rattle.zigzag_maps.specs.DiagramTests.{IsDiagramAt}
-use Rattle.zigzag_maps.proofs.VisitLemmas.{ends_place}
+use Rattle.zigzag_maps.proofs.TestsOfArrows.{ends_place}
 
 -- the tests decide whether a diagram is plain
 pub plain_diagram : (d : ℕ) (t : Tree) → IsDiagram d t → (first_failure (plain_tests_in t) ≡ None) ↔ IsPlainDiagramTree t

@@ -20,7 +20,7 @@ use Rattle.hashcons.specs.declared.id.AnyId.TheVariants as id
 use Rattle.hashcons.specs.Contents.{Contents, IsStore, Grows, diagram_at, arrow_at}
 use Rattle.hashcons.specs.Nodes.{AreDiagramChildren, AreArrowChildren}
 use Rattle.hashcons.specs.Ids.{IsOf, tree_of, id_at, GathersIds, IsDiagramId, IsArrowId, AreDiagramsAt, AreArrowsAt, NameDiagrams, NameArrows}
-use Rattle.hashcons.proofs.TableLemmas.{length-picked, get_or-picked}
+use Rattle.hashcons.proofs.TableTrees.{length-picked, get_or-picked}
 
 -- ---- ids that are named
 

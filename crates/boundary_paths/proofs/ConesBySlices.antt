@@ -19,7 +19,7 @@ use Rattle.diagram_terms.proofs.Duals.{length-tab, get-tab}
 use Rattle.diagram_terms.proofs.Glue.{dia_tree-dia, dia-sings_len, dia-reg, dia-sing}
 use Rattle.diagram_terms.proofs.Shapes.{IsDiagram-point, IsDiagram-zig, IsArrow-ends, IsArrow-zag}
 use Rattle.diagram_terms.specs.Operations.{identity_tree}
-use Rattle.zigzag_maps.proofs.IdentityLemmas.{identity_shape, slices_tab}
+use Rattle.zigzag_maps.proofs.IdentitySlices.{identity_shape, slices_tab}
 use Rattle.diagram_terms.proofs.NotionsOnTrees.{on_diagram_at}
 use Rattle.hashcons.specs.Contents.{Contents, IsStore, IsDiagramOf, diagram_at}
 use Rattle.diagram_terms.specs.ConeTrees.{identity_diagram_tree, cone_tree, mid_tree, type_tree}

@@ -20,7 +20,7 @@ use Rattle.hashcons.specs.Contents.{Contents, IsStore, IsDiagramOf, Grows, diagr
 use Rattle.hashcons.specs.Gathers.{Gathers}
 use Rattle.hashcons.specs.Made.{MakesArrows}
 use Rattle.smallvec.specs.SmallVec.{SmallVec}
-use Rattle.hashcons.proofs.ContentsLemmas.{Grows-refl}
+use Rattle.hashcons.proofs.OneMoreTree.{Grows-refl}
 use Rattle.hashcons.proofs.Growth.{Grows-trans, store-kept, diagram-kept, arrow-kept, diagram_at-kept, arrow_at-kept, gathers-arrows_grow, gathers-picked}
 use Rattle.diagram_terms.proofs.NotionsOnTrees.{on_diagram_at}
 use Rattle.diagram_terms.specs.Operations.{identity_tree}

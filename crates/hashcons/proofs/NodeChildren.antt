@@ -13,7 +13,7 @@ use Rattle.hashcons.specs.declared.view.DiagramView.{DiagramView}
 use Rattle.hashcons.specs.declared.view.DiagramView.TheVariants as d
 use Rattle.hashcons.specs.Contents.{HasSlicesAmong, HasLegsAmong, HasArrowsAmong}
 use Rattle.hashcons.specs.Nodes.{tree_of_arrow, tree_of_diagram, IsArrowOver, IsDiagramOver}
-use Rattle.hashcons.proofs.TableLemmas.{length-picked, get_or-picked}
+use Rattle.hashcons.proofs.TableTrees.{length-picked, get_or-picked}
 
 -- the parts that a list of places names, where a tree has them as one of its lists
 picked_among : (ts : List Tree) (is : List ℕ) (us : List Tree) → us ≡ picked ts is → AreBelow is (length ts)

@@ -18,7 +18,7 @@ use Rattle.diagram_terms.specs.Order.{steps, in_order, PassedBefore}
 use Rattle.zigzag_maps.specs.Walks.{IsWalk, tests_in_part, tests_to_part}
 use Rattle.diagram_terms.proofs.NotionsOnTrees.{above}
 use Rattle.diagram_terms.proofs.NextSteps.{by_steps}
-use Rattle.zigzag_maps.proofs.VisitLemmas.{tests_between_at}
+use Rattle.zigzag_maps.proofs.TestsOfArrows.{tests_between_at}
 
 pub tests_in_at : (d : ℕ) (t : Tree) → IsDiagram d t → tests_in t ≡ tests_of d (dia d t)
 unfolding tests_in

@@ -11,8 +11,8 @@ use Rattle.hashcons.specs.declared.view.DiagramView.{DiagramView}
 use Rattle.hashcons.specs.declared.view.DiagramView.TheVariants as d
 use Rattle.hashcons.specs.Contents.{Contents, IsStore, IsDiagramOf, IsArrowOf, diagram_at, arrow_at}
 use Rattle.hashcons.specs.Nodes.{tree_of_arrow, tree_of_diagram, IsArrowOver, IsDiagramOver}
-use Rattle.hashcons.proofs.TableLemmas.{length-picked, get_or-picked}
-use Rattle.hashcons.proofs.PickLemmas.{HasFirst, zig_first, zag_first}
+use Rattle.hashcons.proofs.TableTrees.{length-picked, get_or-picked}
+use Rattle.hashcons.proofs.PartsOfNodes.{HasFirst, zig_first, zag_first}
 
 -- the trees of a list of ids, the first of which is one of the list of the store and one dimension below t
 pub record FirstIs (ts : List Tree) (t : Tree) (is : List ℕ) : Type 0 where

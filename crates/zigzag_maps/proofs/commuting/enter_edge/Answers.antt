@@ -1,6 +1,6 @@
 use Rattle.std.proofs.Common.{arith}
 use Rattle.zigzag_maps.proofs.EdgeSteps.{has_edges, composable_read, dim_read}
-use Rattle.zigzag_maps.proofs.commuting.edge_before.Goals as goal
+use Rattle.zigzag_maps.proofs.commuting.enter_edge.Goals as goal
 
 pub arrow_sing-slice-requires-clause-above : goal.arrow_sing-slice-requires-clause-above
 arrow_sing-slice-requires-clause-above c =

@@ -1,6 +1,6 @@
 use Rattle.std.proofs.Common.{arith}
 use Rattle.zigzag_maps.proofs.EdgeSteps.{has_edges, composable_read, dim_read}
-use Rattle.zigzag_maps.proofs.commuting.last_edge.Goals as goal
+use Rattle.zigzag_maps.proofs.commuting.right_edge.Goals as goal
 
 pub bwd-leg-requires-clause-within : goal.bwd-leg-requires-clause-within
 bwd-leg-requires-clause-within c =

@@ -15,7 +15,7 @@ use Rattle.hashcons.specs.declared.view.DiagramView.{DiagramView}
 use Rattle.hashcons.specs.Contents.{Contents, IsIdentityOf, IsCompositeOf, IsStore, AreNotes, Grows, with_notes}
 use Rattle.hashcons.specs.Notes.{Notes, KeepsNotes, Key, NotesMore, HasMore, same_pair, same_triple, same_key}
 use Rattle.hashcons.specs.Tables.{contents_of, AreTables}
-use Rattle.hashcons.proofs.ContentsLemmas.{KeepsTrees, notes-stay}
+use Rattle.hashcons.proofs.OneMoreTree.{KeepsTrees, notes-stay}
 
 -- ---- equal keys are one key
 

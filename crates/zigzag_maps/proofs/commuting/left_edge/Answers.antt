@@ -1,6 +1,6 @@
 use Rattle.std.proofs.Common.{arith}
 use Rattle.zigzag_maps.proofs.EdgeSteps.{has_edges, composable_read, dim_read}
-use Rattle.zigzag_maps.proofs.commuting.first_edge.Goals as goal
+use Rattle.zigzag_maps.proofs.commuting.left_edge.Goals as goal
 
 pub fwd-leg-requires-clause-within : goal.fwd-leg-requires-clause-within
 fwd-leg-requires-clause-within c =

@@ -8,7 +8,7 @@ use Rattle.diagram_terms.specs.Shape.{IsDiagram, IsArrow}
 use Rattle.diagram_terms.specs.Dimension.{dimension_of, dimension_of-point, dimension_of-ends, IsDiagramTree, IsArrowTree}
 use Rattle.diagram_terms.proofs.Shapes.{kind-diagram_zero, kind-arrow_zero}
 use Rattle.diagram_terms.proofs.Dimensions.{dimension_of-zig_first, dimension_of-zag_first}
-use Rattle.hashcons.proofs.TableLemmas.{length-picked, get_or-picked}
+use Rattle.hashcons.proofs.TableTrees.{length-picked, get_or-picked}
 
 pub length-regs_point : (x : Label) → length (regs (point x)) ≡ 0
 unfolding regs point
