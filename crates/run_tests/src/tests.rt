@@ -8,6 +8,8 @@ use std::test::Fail;
 
 mod faults;
 mod hostile;
+mod long_inputs;
+mod numbers;
 mod replays;
 
 const ONE_ARROW: &str =
@@ -89,6 +91,15 @@ const LOOKS: [Case; 15] = [
     ("Look", ONE_ARROW, Status::Usage, ""),
 ];
 
+/// The status of a run on an input without faults, and what it writes.
+fn answer_to(alloc: Global, line: &str, bytes: &[u8]) -> Result<(Status, Vec<u8>), AllocError> {
+    let words = words_of(alloc, line)?;
+    let mut input = SureSource::new(Vec::from_slice(alloc, bytes)?);
+    let mut output = SureSink::new(alloc);
+    let status = run(alloc, words.as_slice(), &mut input, &mut output);
+    Ok((status, Vec::from_slice(alloc, output.written())?))
+}
+
 /// Runs on an input without faults.
 fn check_run(
     rt: &(impl Abort + AllocGlobal),
@@ -97,13 +108,9 @@ fn check_run(
     status: Status,
     want: &str,
 ) -> Result<(), Fail> {
-    let alloc = rt.alloc();
-    let words = words_of(alloc, line)?;
-    let mut input = SureSource::new(Vec::from_slice(alloc, bytes)?);
-    let mut output = SureSink::new(alloc);
-    let answer = run(alloc, words.as_slice(), &mut input, &mut output);
+    let (answer, written) = answer_to(rt.alloc(), line, bytes)?;
     assert_eq!(rt; answer, status, "{line} {want}");
-    assert!(rt; output.written() == want.as_bytes(), "{line} {want}");
+    assert!(rt; written.as_slice() == want.as_bytes(), "{line} {want}");
     Ok(())
 }
 

@@ -1,6 +1,5 @@
-use super::{Case, check_runs, words_of};
-use hom_run::{Status, run};
-use io_edge::{SureSink, SureSource};
+use super::{Case, check_runs};
+use hom_run::Status;
 use std::test::Fail;
 
 pub(super) const POINT_AND_LOOP: &str =
@@ -88,33 +87,4 @@ const REPLAYS: [Case; 13] = [
 #[test]
 fn replays_sessions(rt: HostRuntime) -> Result<(), Fail> {
     check_runs(&rt, &REPLAYS)
-}
-
-#[test]
-fn takes_lines_of_a_mebibyte(rt: HostRuntime) -> Result<(), Fail> {
-    let alloc = rt.alloc();
-    let words = words_of(alloc, "replay")?;
-    let cases = [
-        ("", 1_048_576usize, Status::Done, ""),
-        ("", 1_048_577, Status::TooLong, ""),
-        (
-            POINT_AND_LOOP,
-            1_048_577,
-            Status::TooLong,
-            POINT_AND_LOOP_LINES,
-        ),
-    ];
-    for (before, spaces, status, want) in cases {
-        let mut bytes = Vec::from_slice(alloc, before.as_bytes())?;
-        bytes.resize(before.len() + spaces, b' ')?;
-        bytes.push(b'\n')?;
-        let mut input = SureSource::new(bytes);
-        let mut output = SureSink::new(alloc);
-        assert_eq!(rt;
-            run(alloc, words.as_slice(), &mut input, &mut output),
-            status
-        );
-        assert!(rt; output.written() == want.as_bytes());
-    }
-    Ok(())
 }
