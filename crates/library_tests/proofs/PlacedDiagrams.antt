@@ -1,6 +1,5 @@
--- What stands at a place of the ids under which a store has the trees of a list of nodes.
-use Rattle.std.proofs.Common.{◌≡◌, ℕ, ◌<◌, List, length, slice_get, Option, Some, refl, sym, ap, ◌∙◌, subst, arith}
-use Rattle.std.proofs.lemmas.Option.{slice_get_within, slice_get-get_or, same_Some}
+-- The diagram at a place of a list of nodes, and its first fault.
+use Rattle.std.proofs.Common.{◌≡◌, ℕ, List, length, slice_get, Option, Some, refl, sym, ap, ◌∙◌, subst}
 use Rattle.diagram_terms.specs.declared.node.Node.{Node}
 use Rattle.diagram_terms.specs.declared.node.Sort.{Sort}
 use Rattle.diagram_terms.specs.declared.node.Sort.TheVariants as sort
@@ -18,24 +17,9 @@ use Rattle.diagram_terms.proofs.Shapes.{one_kind}
 use Rattle.hashcons.specs.declared.id.AnyId.{AnyId}
 use Rattle.hashcons.specs.declared.id.AnyId.TheVariants as id
 use Rattle.hashcons.specs.Contents.{Contents, IsStore, diagram_at}
-use Rattle.hashcons.specs.Ids.{IsOf, GathersIds, id_at, tree_of}
+use Rattle.hashcons.specs.Ids.{GathersIds}
+use Rattle.store_fixtures.proofs.PlacedIds.{within, id_of_store, id_tree}
 use Rattle.node_json.specs.Documents.{IsDiagramPlace}
-
-module _ (c : Contents) (ids : List AnyId) (n : ℕ) (f : ℕ → Tree) (held : GathersIds c ids n f) (place : ℕ) (x : AnyId)
-    (found : slice_get ids place ≡ Some x) where
-  within : place < n
-  within = let l = slice_get_within ids place x found in let e = held.len in omega arith
-
-  same : id_at ids place ≡ x
-  same =
-      let l = slice_get_within ids place x found in
-      same_Some (id_at ids place) x (sym (slice_get-get_or ids place (id.Diagram 0) l) ∙ found)
-
-  pub id_of_store : IsOf c x
-  id_of_store = subst (IsOf c) same (held.of_store place within)
-
-  id_tree : tree_of c x ≡ f place
-  id_tree = sym (ap (tree_of c) same) ∙ held.are place within
 
 -- what has the tree of a diagram is of the sort of one
 diagram_sort : (s : Sort) (t : Tree) (d : ℕ) → IsOfSort s t → IsDiagram d t → (e : ℕ) × (s ≡ sort.Diagram e)
