@@ -43,7 +43,7 @@ fn check_long_runs(rt: &(impl Abort + AllocGlobal), cases: &[LongCase]) -> Resul
     Ok(())
 }
 
-const INPUTS: [LongCase; 14] = [
+const INPUTS: [LongCase; 12] = [
     (
         "look",
         Long {
@@ -87,28 +87,6 @@ const INPUTS: [LongCase; 14] = [
         },
         Status::Form,
         NOT_JSON,
-    ),
-    (
-        "look",
-        Long {
-            before: "",
-            byte: b' ',
-            count: 67_108_864,
-            behind: "",
-        },
-        Status::Form,
-        NOT_JSON,
-    ),
-    (
-        "look",
-        Long {
-            before: "",
-            byte: b' ',
-            count: 67_108_865,
-            behind: "",
-        },
-        Status::TooLong,
-        "",
     ),
     (
         "replay",
@@ -203,4 +181,35 @@ const INPUTS: [LongCase; 14] = [
 #[test]
 fn answers_long_inputs(rt: HostRuntime) -> Result<(), Fail> {
     check_long_runs(&rt, &INPUTS)
+}
+
+/// An input of the greatest length, and one that is longer by a byte.
+const GREATEST_INPUTS: [LongCase; 2] = [
+    (
+        "look",
+        Long {
+            before: "",
+            byte: b' ',
+            count: 67_108_864,
+            behind: "",
+        },
+        Status::Form,
+        NOT_JSON,
+    ),
+    (
+        "look",
+        Long {
+            before: "",
+            byte: b' ',
+            count: 67_108_865,
+            behind: "",
+        },
+        Status::TooLong,
+        "",
+    ),
+];
+
+#[test]
+fn answers_the_greatest_inputs(rt: HostRuntime) -> Result<(), Fail> {
+    check_long_runs(&rt, &GREATEST_INPUTS)
 }
