@@ -1,5 +1,5 @@
 -- Edits and those that take them back.
-use Rattle.std.proofs.Common.{◌≡◌, ℕ, zero, suc, ◌-◌, ◌<◌, ◌≤◌, List, [], ◌∷◌, ◌++◌, length, take, get_or, All, refl, ap, subst, arith}
+use Rattle.std.proofs.Common.{◌≡◌, ℕ, zero, suc, ◌-◌, ◌<◌, ◌≤◌, List, [], ◌∷◌, ◌++◌, length, take, get_or, All, refl, ap, subst, arith, ◌∙◌}
 use Rattle.std.proofs.lemmas.List.{get_or_push, length_push, take_at}
 use Rattle.std.proofs.lemmas.List.Edits.{get_or-insert_at, length-insert}
 use Rattle.std.proofs.lemmas.List.Elements.{All-get_or}
@@ -16,6 +16,9 @@ pub insert-remove : {X : Type 0} (xs : List X) (i : ℕ) (d : X) → i < length 
 insert-remove [] i d l = absurd (omega arith)
 insert-remove (x ∷ xs) zero d l = refl
 insert-remove (x ∷ xs) (suc i) d l = ap (λ ys. x ∷ ys) (insert-remove xs i d (omega arith))
+
+pub back_in : {X : Type 0} (xs ys : List X) (i : ℕ) (x : X) → x ≡ get_or xs i x → ys ≡ remove xs i → i < length xs → insert ys i x ≡ xs
+back_in xs ys i x e f l = (λ j. insert (f j) i (e j)) ∙ insert-remove xs i x l
 
 -- what was put is taken away
 pub remove-insert : {X : Type 0} (xs : List X) (i : ℕ) (y : X) → i ≤ length xs → remove (insert xs i y) i ≡ xs

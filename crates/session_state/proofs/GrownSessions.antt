@@ -12,11 +12,11 @@ use Rattle.workspace_lists.specs.declared.names.Names.{Names}
 use Rattle.workspace_lists.specs.declared.workspace.Generator.{Generator}
 use Rattle.workspace_lists.specs.Held.{IsGeneratorOf, Lists, trees_in}
 use Rattle.workspace_lists.specs.Names.{meaning_in}
-use Rattle.workspace_lists.proofs.ForCallers.{held-kept, trees-kept}
+use Rattle.workspace_lists.proofs.ForCallers.{held-kept, map_of-kept, trees-kept}
 use Rattle.session_state.specs.declared.edit.Edit.{Edit}
 use Rattle.session_state.specs.declared.edit.Edit.TheVariants as edit
 use Rattle.session_state.specs.Edits.{AllFit, HasType, IsGoodAt, edited, turns}
-use Rattle.session_state.specs.Meanings.{IsMeaningOf, Tell, diagram, generator, meaning_over}
+use Rattle.session_state.specs.Meanings.{IsMeaningOf, Tell, arrow_between, diagram, generator, meaning_over}
 use Rattle.session_state.specs.States.{IsHistory, session_over}
 use Rattle.session_state.proofs.EditsBack.{all_last}
 
@@ -43,11 +43,13 @@ module _ (old new : Contents) (grows : Grows old new) where
   meaning_of-kept meaning.Free h = tt
   meaning_of-kept (meaning.Generator t) h = grows.diagrams t h
   meaning_of-kept (meaning.Diagram d) h = grows.diagrams d h
+  meaning_of-kept (meaning.Map m) h = map_of-kept old new grows m h
 
   meaning_over-kept : (m : Meaning) → IsMeaningOf old m → meaning_over new m ≡ meaning_over old m
   meaning_over-kept meaning.Free h = refl
   meaning_over-kept (meaning.Generator t) h = ap generator (grows.diagram_trees t h)
   meaning_over-kept (meaning.Diagram d) h = ap diagram (grows.diagram_trees d h)
+  meaning_over-kept (meaning.Map m) h = λ i. arrow_between (grows.diagram_trees m.source h.source i) (grows.diagram_trees m.target h.target i) (grows.arrow_trees m.arrow h.arrow i)
 
   pub tell-kept : (W : Workspace) (names : Names) → Tell old W names → Tell new W names
   tell-kept W names h = record {
@@ -68,6 +70,8 @@ module _ (old new : Contents) (grows : Grows old new) where
   }
   type_of-kept names l (edit.TakeDiagram place) h k = tt
   type_of-kept names l (edit.PutDiagram place d) h k = tt
+  type_of-kept names l (edit.TakeMap place) h k = tt
+  type_of-kept names l (edit.PutMap place m) h k = tt
 
   all_fit-kept : (names : Names) (l : Lists) (es : List Edit) → All (IsGoodAt old names) (turns l es) → AllFit old l es → AllFit new l es
   all_fit-kept names l [] h k = tt

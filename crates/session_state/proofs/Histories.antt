@@ -1,7 +1,6 @@
 -- The workspaces of a session after an edit was made and its opposite was kept.
-use Rattle.std.proofs.Common.{◌≡◌, ℕ, ◌+◌, ◌-◌, ◌≤◌, List, [], ◌∷◌, ◌++◌, length, map, reverse, true, All, Some, refl, sym, ap, subst, ◌∙◌, arith}
-use Rattle.std.proofs.lemmas.List.{length_push, length-take, reverse-append}
-use Rattle.std.proofs.lemmas.List.Edits.{length-insert, length-remove}
+use Rattle.std.proofs.Common.{◌≡◌, ℕ, List, [], ◌∷◌, ◌++◌, map, reverse, true, All, Some, sym, ap, subst, ◌∙◌}
+use Rattle.std.proofs.lemmas.List.{reverse-append}
 use Rattle.std.proofs.lemmas.List.Elements.{All-cons, All-head, All-nil, All-push, All-tail, All-weaker}
 use Rattle.hashcons.specs.Contents.{Contents}
 use Rattle.workspace_json.specs.Sessions.{Session, back, forth, redone, undone}
@@ -9,13 +8,15 @@ use Rattle.workspace_json.specs.Workspaces.{Workspace}
 use Rattle.workspace_lists.specs.declared.names.Names.{Names}
 use Rattle.workspace_lists.specs.declared.workspace.Generator.{Generator}
 use Rattle.workspace_lists.specs.declared.workspace.Named.{Named}
+use Rattle.workspace_lists.specs.declared.workspace.NamedMap.{NamedMap}
 use Rattle.workspace_lists.specs.Names.{knows}
 use Rattle.session_state.specs.declared.edit.Edit.{Edit}
-use Rattle.session_state.specs.declared.edit.Edit.TheVariants as edit
 use Rattle.workspace_lists.specs.Held.{Lists, trees_in}
-use Rattle.session_state.specs.Edits.{AllFit, AreOfOppositeKinds, Fits, HasType, IsGoodAt, IsWithin, LeadsBack, LeadsForth, diagrams_put, diagrams_put_by, edited, generators_put, put_by, turns}
+use Rattle.session_state.specs.Edits.{AllFit, Fits, HasType, IsGoodAt, IsWithin, LeadsBack, LeadsForth, edited, turns}
+use Rattle.session_state.specs.Kinds.{AreOpposite}
 use Rattle.session_state.specs.States.{IsHistory, session_over}
 use Rattle.session_state.proofs.EditsBack.{all_last}
+use Rattle.session_state.proofs.OppositeEdits.{opposite_back, opposite_forth}
 
 -- ---- the last edit of a list
 
@@ -26,89 +27,6 @@ pub all_front : {X : Type 0} (P : X → Type 0) (xs : List X) (x : X) → All P 
 all_front P [] x h = All-nil P
 all_front P (y ∷ xs) x h = All-cons P y xs (All-head P y (xs ++ x ∷ []) h) (all_front P xs x (All-tail P y (xs ++ x ∷ []) h))
 
-pub generators_put-push : (es : List Edit) (e : Edit) → generators_put (es ++ e ∷ []) ≡ generators_put es + put_by e
-generators_put-push [] e = omega arith
-generators_put-push (f ∷ es) e = let h = generators_put-push es e in omega arith
-
-pub diagrams_put-push : (es : List Edit) (e : Edit) → diagrams_put (es ++ e ∷ []) ≡ diagrams_put es + diagrams_put_by e
-diagrams_put-push [] e = omega arith
-diagrams_put-push (f ∷ es) e = let h = diagrams_put-push es e in omega arith
-
-puts_one : (e : Edit) → diagrams_put_by e ≤ 1
-puts_one edit.TakeGenerator = omega arith
-puts_one (edit.PutGenerator g m) = omega arith
-puts_one (edit.TakeDiagram place) = omega arith
-puts_one (edit.PutDiagram place d) = omega arith
-
-pub diagrams_put-le : (es : List Edit) → diagrams_put es ≤ length es
-diagrams_put-le [] = omega arith
-diagrams_put-le (e ∷ es) = let h = diagrams_put-le es in let k = puts_one e in omega arith
-
--- ---- an edit and its opposite
-
-pub opposite_forth : (e i : Edit) → LeadsBack e → AreOfOppositeKinds e i → LeadsForth i
-opposite_forth edit.TakeGenerator (edit.PutGenerator g m) h o = tt
-opposite_forth (edit.PutGenerator g m) i h o = absurd h
-opposite_forth (edit.TakeDiagram place) (edit.PutDiagram at d) h o = tt
-opposite_forth (edit.PutDiagram place d) (edit.TakeDiagram at) h o = tt
-opposite_forth edit.TakeGenerator edit.TakeGenerator h o = absurd o
-opposite_forth edit.TakeGenerator (edit.TakeDiagram at) h o = absurd o
-opposite_forth edit.TakeGenerator (edit.PutDiagram at d) h o = absurd o
-opposite_forth (edit.TakeDiagram place) edit.TakeGenerator h o = absurd o
-opposite_forth (edit.TakeDiagram place) (edit.PutGenerator g m) h o = absurd o
-opposite_forth (edit.TakeDiagram place) (edit.TakeDiagram at) h o = absurd o
-opposite_forth (edit.PutDiagram place d) edit.TakeGenerator h o = absurd o
-opposite_forth (edit.PutDiagram place d) (edit.PutGenerator g m) h o = absurd o
-opposite_forth (edit.PutDiagram place d) (edit.PutDiagram at e) h o = absurd o
-
-pub opposite_back : (e i : Edit) → LeadsForth e → AreOfOppositeKinds e i → LeadsBack i
-opposite_back edit.TakeGenerator i h o = absurd h
-opposite_back (edit.PutGenerator g m) edit.TakeGenerator h o = tt
-opposite_back (edit.TakeDiagram place) (edit.PutDiagram at d) h o = tt
-opposite_back (edit.PutDiagram place d) (edit.TakeDiagram at) h o = tt
-opposite_back (edit.PutGenerator g m) (edit.PutGenerator k n) h o = absurd o
-opposite_back (edit.PutGenerator g m) (edit.TakeDiagram at) h o = absurd o
-opposite_back (edit.PutGenerator g m) (edit.PutDiagram at d) h o = absurd o
-opposite_back (edit.TakeDiagram place) edit.TakeGenerator h o = absurd o
-opposite_back (edit.TakeDiagram place) (edit.PutGenerator g m) h o = absurd o
-opposite_back (edit.TakeDiagram place) (edit.TakeDiagram at) h o = absurd o
-opposite_back (edit.PutDiagram place d) edit.TakeGenerator h o = absurd o
-opposite_back (edit.PutDiagram place d) (edit.PutGenerator g m) h o = absurd o
-opposite_back (edit.PutDiagram place d) (edit.PutDiagram at e) h o = absurd o
-
--- what the lists hold and what the edits put, taken together, stays
-pub record AreBalanced (l : Lists) (e i : Edit) : Type 0 where
-  pub generators : length (edited l e).generators + put_by i ≡ length l.generators + put_by e
-  pub diagrams : length (edited l e).diagrams + diagrams_put_by i ≡ length l.diagrams + diagrams_put_by e
-
-pub balanced : (l : Lists) (e i : Edit) → IsWithin l e → AreOfOppositeKinds e i → AreBalanced l e i
-balanced l edit.TakeGenerator (edit.PutGenerator g m) w o =
-    let n = length-take (length l.generators - 1) l.generators in record { generators = omega arith; diagrams = omega arith }
-balanced l (edit.PutGenerator g m) edit.TakeGenerator w o =
-    let n = length_push l.generators g in record { generators = omega arith; diagrams = omega arith }
-balanced l (edit.TakeDiagram place) (edit.PutDiagram at d) w o =
-    let n = length-remove l.diagrams place w in record { generators = omega arith; diagrams = omega arith }
-balanced l (edit.PutDiagram place d) (edit.TakeDiagram at) w o =
-    let n = length-insert l.diagrams place d w in record { generators = omega arith; diagrams = omega arith }
-balanced l edit.TakeGenerator edit.TakeGenerator w o = absurd o
-balanced l edit.TakeGenerator (edit.TakeDiagram at) w o = absurd o
-balanced l edit.TakeGenerator (edit.PutDiagram at d) w o = absurd o
-balanced l (edit.PutGenerator g m) (edit.PutGenerator k n) w o = absurd o
-balanced l (edit.PutGenerator g m) (edit.TakeDiagram at) w o = absurd o
-balanced l (edit.PutGenerator g m) (edit.PutDiagram at d) w o = absurd o
-balanced l (edit.TakeDiagram place) edit.TakeGenerator w o = absurd o
-balanced l (edit.TakeDiagram place) (edit.PutGenerator g m) w o = absurd o
-balanced l (edit.TakeDiagram place) (edit.TakeDiagram at) w o = absurd o
-balanced l (edit.PutDiagram place d) edit.TakeGenerator w o = absurd o
-balanced l (edit.PutDiagram place d) (edit.PutGenerator g m) w o = absurd o
-balanced l (edit.PutDiagram place d) (edit.PutDiagram at e) w o = absurd o
-
-pub back_puts_no_generator : (e : Edit) → LeadsBack e → put_by e ≡ 0
-back_puts_no_generator edit.TakeGenerator h = refl
-back_puts_no_generator (edit.PutGenerator g m) h = absurd h
-back_puts_no_generator (edit.TakeDiagram place) h = refl
-back_puts_no_generator (edit.PutDiagram place d) h = refl
-
 -- ---- the lists of a session
 
 -- the table keeps its places
@@ -118,6 +36,7 @@ good-kept_names c old new l kept h = record {
   known = record {
     generators = All-weaker (λ (g : Generator). knows old g.name ≡ true) (λ (g : Generator). knows new g.name ≡ true) (λ g k. kept g.name k) l.generators h.known.generators;
     diagrams = All-weaker (λ (d : Named). knows old d.name ≡ true) (λ (d : Named). knows new d.name ≡ true) (λ d k. kept d.name k) l.diagrams h.known.diagrams;
+    maps = All-weaker (λ (m : NamedMap). knows old m.name ≡ true) (λ (m : NamedMap). knows new m.name ≡ true) (λ m k. kept m.name k) l.maps h.known.maps;
   };
   rule = h.rule;
 }
@@ -160,7 +79,7 @@ module _ (c : Contents) (old new : Names) (kept : (name : List ℕ) → knows ol
         subst (AllFit c m) (sym (last_first fs i))
         (record { within = within; type_of = type_of }, subst (λ (n : Lists). AllFit c n (reverse fs)) (sym back) h)
 
-    pub turned_back : (es fs : List Edit) → AreOfOppositeKinds e i → IsWithin m i → HasType c m i → IsHistory c old l (es ++ e ∷ []) fs → IsHistory c new m es (fs ++ i ∷ [])
+    pub turned_back : (es fs : List Edit) → AreOpposite e i → IsWithin m i → HasType c m i → IsHistory c old l (es ++ e ∷ []) fs → IsHistory c new m es (fs ++ i ∷ [])
     turned_back es fs opposite within type_of h = record {
       present = head_good es h.before;
       before = rest_good es h.before;
@@ -171,7 +90,7 @@ module _ (c : Contents) (old new : Names) (kept : (name : List ℕ) → knows ol
       forth = All-push LeadsForth fs i h.forth (opposite_forth e i (all_last LeadsBack es e h.back) opposite);
     }
 
-    pub turned_forth : (es fs : List Edit) → AreOfOppositeKinds e i → IsWithin m i → HasType c m i → IsHistory c old l es (fs ++ e ∷ []) → IsHistory c new m (es ++ i ∷ []) fs
+    pub turned_forth : (es fs : List Edit) → AreOpposite e i → IsWithin m i → HasType c m i → IsHistory c old l es (fs ++ e ∷ []) → IsHistory c new m (es ++ i ∷ []) fs
     turned_forth es fs opposite within type_of h = record {
       present = head_good fs h.after;
       before = more_good es h.present h.before;
@@ -183,7 +102,7 @@ module _ (c : Contents) (old new : Names) (kept : (name : List ℕ) → knows ol
     }
 
     -- the change is made, and what was undone is forgotten
-    pub turned_anew : (es fs : List Edit) → LeadsForth e → AreOfOppositeKinds e i → IsWithin m i → HasType c m i → IsGoodAt c old (edited l e) → IsHistory c old l es fs → IsHistory c new m (es ++ i ∷ []) []
+    pub turned_anew : (es fs : List Edit) → LeadsForth e → AreOpposite e i → IsWithin m i → HasType c m i → IsGoodAt c old (edited l e) → IsHistory c old l es fs → IsHistory c new m (es ++ i ∷ []) []
     turned_anew es fs forth opposite within type_of good h = record {
       present = subst (IsGoodAt c new) (sym made) (good-kept_names c old new (edited l e) kept good);
       before = more_good es h.present h.before;

@@ -2,6 +2,8 @@ pub mod EditsBack
 pub mod GainedNames
 pub mod GrownSessions
 pub mod Histories
+pub mod NamedThings
+pub mod OppositeEdits
 pub mod StateGrowth
 pub mod StateInvariant
 pub mod ToldMeanings

@@ -24,6 +24,7 @@ module _ (s : State) (c : Contents) (signature : SignatureState) (grows : Grows 
       future = is.room.future;
       generators = is.room.generators;
       diagrams = is.room.diagrams;
+      maps = is.room.maps;
       spare = let r = is.room.spare in omega arith;
     };
   }

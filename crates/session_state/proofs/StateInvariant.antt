@@ -1,30 +1,31 @@
 -- The invariant of what a session keeps, after undo, redo and a change.
-use Rattle.std.proofs.Common.{◌≡◌, ℕ, zero, suc, ◌+◌, ◌-◌, ◌<◌, ◌≤◌, List, [], ◌∷◌, ◌++◌, length, take, map, get_or, true, All, Option, Some, None, option_map, refl, sym, ap, subst, ◌∙◌, arith}
+use Rattle.std.proofs.Common.{◌≡◌, ℕ, zero, suc, ◌+◌, ◌-◌, ◌<◌, ◌≤◌, List, [], ◌∷◌, ◌++◌, length, take, map, get_or, true, All, refl, sym, ap, subst, ◌∙◌, arith}
 use Rattle.std.specs.Vec.{vec_capacity}
-use Rattle.std.proofs.lemmas.List.{length-map, length_push, map-append, take-map}
+use Rattle.std.proofs.lemmas.List.{length-map, map-append, take-map}
 use Rattle.std.proofs.lemmas.List.Elements.{All-head, All-nil, All-tail}
 use Rattle.diagram_terms.specs.declared.limits.TheConstants.{GREATEST_DIM}
 use Rattle.diagram_terms.specs.Dimension.{dimension_of}
-use Rattle.diagram_terms.specs.Tree.{Tree}
 use Rattle.diagram_terms.specs.Typing.{Generator, generator_dim, IsGoodSignature, IsWellTyped}
-use Rattle.hashcons.specs.Contents.{Contents, IsDiagramOf, diagram_at}
+use Rattle.hashcons.specs.Contents.{Contents, IsDiagramOf}
 use Rattle.typecheck.specs.Signatures.{AreGoodOver, Entry, IsEntryOver, SignatureState, entry_of, generator_in, generators_in, no_entry}
 use Rattle.node_json.specs.Names.{is_good_name}
-use Rattle.workspace_json.specs.Workspaces.{IsWorkspace, NamedDiagram, Workspace, diagram_named, first_there, term, type_named}
-use Rattle.workspace_lists.specs.declared.names.Meaning.{Meaning}
+use Rattle.workspace_json.specs.Maps.{IsMap}
+use Rattle.workspace_json.specs.Workspaces.{IsWorkspace, NamedDiagram}
 use Rattle.workspace_lists.specs.declared.names.Meaning.TheVariants as meaning
 use Rattle.workspace_lists.specs.declared.names.Names.{Names}
 use Rattle.workspace_lists.specs.declared.workspace.Generator.{Generator as Kept}
 use Rattle.workspace_lists.specs.declared.workspace.Named.{Named}
+use Rattle.workspace_lists.specs.declared.workspace.NamedMap.{NamedMap}
 use Rattle.workspace_lists.specs.declared.workspace.Workspace.{Workspace as Held}
 use Rattle.workspace_lists.specs.Names.{knows, meaning_in}
-use Rattle.workspace_lists.specs.Held.{AreHeld, IsGeneratorOf, Lists, generator_over, generators_over, trees_in}
-use Rattle.session_state.specs.Meanings.{IsMeaningOf, Tell, meaning_over, stands_by}
+use Rattle.workspace_lists.specs.Held.{AreHeld, IsGeneratorOf, IsMapOf, Lists, generator_over, generators_over, trees_in}
+use Rattle.session_state.specs.Meanings.{IsMeaningOf, Tell, meaning_over}
 use Rattle.session_state.specs.declared.entries.Entries.{Entries}
 use Rattle.session_state.specs.declared.edit.Edit.{Edit}
 use Rattle.session_state.specs.declared.edit.Edit.TheVariants as edit
-use Rattle.session_state.specs.Edits.{AreOfOppositeKinds, HasType, IsGoodAt, IsWithin, LeadsBack, LeadsForth, diagrams_put_by, edited, put_by}
-use Rattle.session_state.specs.Signing.{CanFollowBack, CanFollowForth, followed_back, followed_forth, taken_by}
+use Rattle.session_state.specs.Edits.{HasType, IsGoodAt, IsWithin, LeadsBack, LeadsForth, edited}
+use Rattle.session_state.specs.Kinds.{of_diagrams, of_generators, of_maps, puts}
+use Rattle.session_state.specs.Signing.{CanFollowBack, CanFollowForth, followed_back, followed_forth}
 use Rattle.session_state.specs.EditSteps.{HasRoomFor, KeepsTelling, Telling}
 use Rattle.session_state.specs.States.{IsHistory, entries_over, lists_of}
 use Rattle.session_state.proofs.EditsBack.{all_last}
@@ -67,9 +68,11 @@ good_entries c names l h = record {
 pub follows_back : (l : Lists) (e : Edit) → LeadsBack e → followed_back (entries_over l.generators) e ≡ entries_over (edited l e).generators
 follows_back l edit.TakeGenerator h =
     ap (λ n. take (n - 1) (entries_over l.generators)) (length-map l.generators entry) ∙ take-map entry (length l.generators - 1) l.generators
-follows_back l (edit.PutGenerator g m) h = absurd h
+follows_back l (edit.PutGenerator g m) h = absurd (omega arith)
 follows_back l (edit.TakeDiagram place) h = refl
 follows_back l (edit.PutDiagram place d) h = refl
+follows_back l (edit.TakeMap place) h = refl
+follows_back l (edit.PutMap place m) h = refl
 
 pub can_follow_back : (l : Lists) (e : Edit) (s : SignatureState) → s.entries ≡ entries_over l.generators → IsWithin l e → CanFollowBack s e
 can_follow_back l edit.TakeGenerator s same h =
@@ -79,6 +82,8 @@ can_follow_back l edit.TakeGenerator s same h =
 can_follow_back l (edit.PutGenerator g m) s same h = tt
 can_follow_back l (edit.TakeDiagram place) s same h = tt
 can_follow_back l (edit.PutDiagram place d) s same h = tt
+can_follow_back l (edit.TakeMap place) s same h = tt
+can_follow_back l (edit.PutMap place m) s same h = tt
 
 entry_is : (c : Contents) (g : Kept) → IsGeneratorOf c g → entry_of c g.boundary ≡ entry g
 entry_is c g h = ap (λ n. let e : Entry = record { boundary = g.boundary; dim = n } in e) (sym h.dim)
@@ -88,13 +93,15 @@ last_held c gs g h =
     ap (λ e. entries_over gs ++ e ∷ []) (entry_is c g (all_last (IsGeneratorOf c) gs g h)) ∙ sym (map-append entry gs (g ∷ []))
 
 pub follows_forth : (c : Contents) (names : Names) (l : Lists) (e : Edit) → LeadsForth e → IsGoodAt c names (edited l e) → followed_forth c (entries_over l.generators) e ≡ entries_over (edited l e).generators
-follows_forth c names l edit.TakeGenerator h good = absurd h
+follows_forth c names l edit.TakeGenerator h good = absurd (omega arith)
 follows_forth c names l (edit.PutGenerator g m) h good = last_held c l.generators g good.held.generators
 follows_forth c names l (edit.TakeDiagram place) h good = refl
 follows_forth c names l (edit.PutDiagram place d) h good = refl
+follows_forth c names l (edit.TakeMap place) h good = refl
+follows_forth c names l (edit.PutMap place m) h good = refl
 
 pub can_follow_forth : (c : Contents) (names : Names) (l : Lists) (e : Edit) (s : SignatureState) → s.entries ≡ entries_over l.generators
-    → put_by e ≤ s.spare → IsGoodAt c names (edited l e) → CanFollowForth c s e
+    → puts of_generators e ≤ s.spare → IsGoodAt c names (edited l e) → CanFollowForth c s e
 can_follow_forth c names l edit.TakeGenerator s same room good = tt
 can_follow_forth c names l (edit.PutGenerator g m) s same room good = record {
   room = room;
@@ -103,31 +110,19 @@ can_follow_forth c names l (edit.PutGenerator g m) s same room good = record {
 }
 can_follow_forth c names l (edit.TakeDiagram place) s same room good = tt
 can_follow_forth c names l (edit.PutDiagram place d) s same room good = tt
-
--- how many generators an edit that leads back takes, its opposite puts
-pub taken_is_put : (e i : Edit) → LeadsBack e → AreOfOppositeKinds e i → taken_by e ≡ put_by i
-taken_is_put edit.TakeGenerator (edit.PutGenerator g m) h o = refl
-taken_is_put (edit.PutGenerator g m) i h o = absurd h
-taken_is_put (edit.TakeDiagram place) (edit.PutDiagram at d) h o = refl
-taken_is_put (edit.PutDiagram place d) (edit.TakeDiagram at) h o = refl
-taken_is_put edit.TakeGenerator edit.TakeGenerator h o = absurd o
-taken_is_put edit.TakeGenerator (edit.TakeDiagram at) h o = absurd o
-taken_is_put edit.TakeGenerator (edit.PutDiagram at d) h o = absurd o
-taken_is_put (edit.TakeDiagram place) edit.TakeGenerator h o = absurd o
-taken_is_put (edit.TakeDiagram place) (edit.PutGenerator g m) h o = absurd o
-taken_is_put (edit.TakeDiagram place) (edit.TakeDiagram at) h o = absurd o
-taken_is_put (edit.PutDiagram place d) edit.TakeGenerator h o = absurd o
-taken_is_put (edit.PutDiagram place d) (edit.PutGenerator g m) h o = absurd o
-taken_is_put (edit.PutDiagram place d) (edit.PutDiagram at e) h o = absurd o
+can_follow_forth c names l (edit.TakeMap place) s same room good = tt
+can_follow_forth c names l (edit.PutMap place m) s same room good = tt
 
 -- ---- room in the lists
 
-pub room_for : (w : Held) (e : Edit) → length w.generators.items + put_by e ≤ vec_capacity w.generators
-    → length w.diagrams.items + diagrams_put_by e ≤ vec_capacity w.diagrams → HasRoomFor w e
-room_for w edit.TakeGenerator g d = tt
-room_for w (edit.PutGenerator k m) g d = omega arith
-room_for w (edit.TakeDiagram place) g d = tt
-room_for w (edit.PutDiagram place k) g d = omega arith
+pub room_for : (w : Held) (e : Edit) → length w.generators.items + puts of_generators e ≤ vec_capacity w.generators
+    → length w.diagrams.items + puts of_diagrams e ≤ vec_capacity w.diagrams → length w.maps.items + puts of_maps e ≤ vec_capacity w.maps → HasRoomFor w e
+room_for w edit.TakeGenerator g d m = tt
+room_for w (edit.PutGenerator k t) g d m = omega arith
+room_for w (edit.TakeDiagram place) g d m = tt
+room_for w (edit.PutDiagram place k) g d m = omega arith
+room_for w (edit.TakeMap place) g d m = tt
+room_for w (edit.PutMap place k) g d m = omega arith
 
 -- ---- the table of names
 
@@ -138,71 +133,50 @@ told c old new e i made keeps tell type_of here there =
     keeps tell type_of here.held (subst (AreHeld c) (sym made) there.held) here.rule
     (subst (λ (l : Lists). IsWorkspace (trees_in c l)) (sym made) there.rule)
 
--- ---- terms
-
--- the id that a meaning has
-abbrev pub id_in : Meaning → Option ℕ
-id_in meaning.Free = None
-id_in (meaning.Generator t) = Some t
-id_in (meaning.Diagram d) = Some d
-
-term_by : (c : Contents) (m : Meaning) (a b : Option Tree) → meaning_over c m ≡ stands_by a b → option_map (diagram_at c) (id_in m) ≡ first_there a b
-term_by c meaning.Free None None e = refl
-term_by c meaning.Free None (Some t) e = absurd (let z : ⊥ = cc in z)
-term_by c meaning.Free (Some t) b e = absurd (let z : ⊥ = cc in z)
-term_by c (meaning.Generator t) None None e = absurd (let z : ⊥ = cc in z)
-term_by c (meaning.Generator t) None (Some u) e = absurd (let z : ⊥ = cc in z)
-term_by c (meaning.Generator t) (Some u) b e = let h : diagram_at c t ≡ u = cc in ap Some h
-term_by c (meaning.Diagram d) None None e = absurd (let z : ⊥ = cc in z)
-term_by c (meaning.Diagram d) None (Some u) e = let h : diagram_at c d ≡ u = cc in ap Some h
-term_by c (meaning.Diagram d) (Some u) b e = absurd (let z : ⊥ = cc in z)
-
--- what the table has under a name is the term
-pub known_term : (c : Contents) (W : Workspace) (names : Names) (name : List ℕ) → Tell c W names → option_map (diagram_at c) (id_in (meaning_in names name)) ≡ term W name
-known_term c W names name tell = term_by c (meaning_in names name) (type_named 0 W.generators name) (diagram_named W.diagrams name) (tell.means name)
-
--- ---- an edit that leads forth
-
-pub forth_length : (l : Lists) (e : Edit) → LeadsForth e → length l.generators + put_by e ≡ length (edited l e).generators
-forth_length l edit.TakeGenerator h = absurd h
-forth_length l (edit.PutGenerator g m) h = sym (length_push l.generators g)
-forth_length l (edit.TakeDiagram place) h = omega arith
-forth_length l (edit.PutDiagram place d) h = omega arith
-
 -- ---- nothing
 
+abbrev lists : List Kept → List Named → List NamedMap → Lists
+lists gs ds ms = record { generators = gs; diagrams = ds; maps = ms }
+
 -- where every name is free, the table tells of the empty workspace
-pub tell_nothing : (c : Contents) (names : Names) (gs : List Kept) (ds : List Named) → gs ≡ [] → ds ≡ [] → ((name : List ℕ) → meaning_in names name ≡ meaning.Free)
-    → Tell c (trees_in c (record { generators = gs; diagrams = ds })) names
-tell_nothing c names gs ds g d free = subst (λ (xs : List Kept). Tell c (trees_in c (record { generators = xs; diagrams = ds })) names) (sym g)
-    (subst (λ (xs : List Named). Tell c (trees_in c (record { generators = []; diagrams = xs })) names) (sym d)
+pub tell_nothing : (c : Contents) (names : Names) (gs : List Kept) (ds : List Named) (ms : List NamedMap) → gs ≡ [] → ds ≡ [] → ms ≡ []
+    → ((name : List ℕ) → meaning_in names name ≡ meaning.Free) → Tell c (trees_in c (record { generators = gs; diagrams = ds; maps = ms })) names
+tell_nothing c names gs ds ms g d m free = subst (λ (l : Lists). Tell c (trees_in c l) names) (λ i. lists (sym g i) (sym d i) (sym m i))
     record {
       of_store = λ name. subst (IsMeaningOf c) (sym (free name)) tt;
       means = λ name. ap (meaning_over c) (free name);
-    })
+    }
 
-empty_good : (c : Contents) (names : Names) → IsGoodAt c names (record { generators = []; diagrams = [] })
+empty_good : (c : Contents) (names : Names) → IsGoodAt c names (lists [] [] [])
 empty_good c names = record {
-  held = record { generators = All-nil (IsGeneratorOf c); diagrams = All-nil (λ (d : Named). IsDiagramOf c d.root) };
-  known = record { generators = All-nil (λ (g : Kept). knows names g.name ≡ true); diagrams = All-nil (λ (d : Named). knows names d.name ≡ true) };
+  held = record {
+    generators = All-nil (IsGeneratorOf c);
+    diagrams = All-nil (λ (d : Named). IsDiagramOf c d.root);
+    maps = All-nil (λ (m : NamedMap). IsMapOf c m.map);
+  };
+  known = record {
+    generators = All-nil (λ (g : Kept). knows names g.name ≡ true);
+    diagrams = All-nil (λ (d : Named). knows names d.name ≡ true);
+    maps = All-nil (λ (m : NamedMap). knows names m.name ≡ true);
+  };
   rule = record {
     good_names = All-nil (λ (name : List ℕ). is_good_name name ≡ true);
     once = λ name. omega arith;
     signature = record { good = λ i l. absurd (omega arith) };
     typed = All-nil (λ (d : NamedDiagram). IsWellTyped [] d.tree);
+    valid = All-nil IsMap;
     generator_dims = All-nil (λ (g : Generator). generator_dim g ≤ GREATEST_DIM);
     diagram_dims = All-nil (λ (d : NamedDiagram). dimension_of d.tree ≤ GREATEST_DIM);
     few = omega arith;
   };
 }
 
-pub history_of_nothing : (c : Contents) (names : Names) (gs : List Kept) (ds : List Named) (past future : List Edit) → gs ≡ [] → ds ≡ [] → past ≡ [] → future ≡ []
-    → IsHistory c names (record { generators = gs; diagrams = ds }) past future
-history_of_nothing c names gs ds past future g d p f =
-    subst (λ (xs : List Kept). IsHistory c names (record { generators = xs; diagrams = ds }) past future) (sym g)
-    (subst (λ (xs : List Named). IsHistory c names (record { generators = []; diagrams = xs }) past future) (sym d)
-    (subst (λ (xs : List Edit). IsHistory c names (record { generators = []; diagrams = [] }) xs future) (sym p)
-    (subst (λ (xs : List Edit). IsHistory c names (record { generators = []; diagrams = [] }) [] xs) (sym f)
+pub history_of_nothing : (c : Contents) (names : Names) (gs : List Kept) (ds : List Named) (ms : List NamedMap) (past future : List Edit)
+    → gs ≡ [] → ds ≡ [] → ms ≡ [] → past ≡ [] → future ≡ [] → IsHistory c names (record { generators = gs; diagrams = ds; maps = ms }) past future
+history_of_nothing c names gs ds ms past future g d m p f =
+    subst (λ (l : Lists). IsHistory c names l past future) (λ i. lists (sym g i) (sym d i) (sym m i))
+    (subst (λ (xs : List Edit). IsHistory c names (lists [] [] []) xs future) (sym p)
+    (subst (λ (xs : List Edit). IsHistory c names (lists [] [] []) [] xs) (sym f)
     record {
       present = empty_good c names;
       before = All-nil (IsGoodAt c names);
@@ -211,4 +185,4 @@ history_of_nothing c names gs ds past future g d p f =
       forth_fits = tt;
       back = All-nil LeadsBack;
       forth = All-nil LeadsForth;
-    })))
+    }))

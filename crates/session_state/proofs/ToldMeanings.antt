@@ -5,7 +5,7 @@ use Rattle.std.specs.Prelude.{bytes_eq}
 use Rattle.std.proofs.lemmas.List.{length-map, map-append, take-map}
 use Rattle.std.proofs.lemmas.Slice.Eq.{bytes_eq-Decides}
 use Rattle.diagram_terms.specs.GeneratorTypes.{type_of_generator}
-use Rattle.hashcons.specs.Contents.{Contents, IsDiagramOf, diagram_at}
+use Rattle.hashcons.specs.Contents.{Contents, IsDiagramOf, arrow_at, diagram_at}
 use Rattle.typecheck.specs.Signatures.{generator_in}
 use Rattle.workspace_json.specs.Workspaces.{IsWorkspace, Workspace}
 use Rattle.workspace_lists.specs.declared.names.Meaning.{Meaning}
@@ -13,12 +13,13 @@ use Rattle.workspace_lists.specs.declared.names.Meaning.TheVariants as meaning
 use Rattle.workspace_lists.specs.declared.names.Names.{Names}
 use Rattle.workspace_lists.specs.declared.workspace.Generator.{Generator}
 use Rattle.workspace_lists.specs.declared.workspace.Named.{Named}
-use Rattle.workspace_lists.specs.Held.{Lists, diagram_over, diagrams_over, generator_over, generators_over, trees_in}
+use Rattle.workspace_lists.specs.declared.workspace.NamedMap.{NamedMap}
+use Rattle.workspace_lists.specs.Held.{IsMapOf, Lists, diagram_over, diagrams_over, generator_over, generators_over, map_over, maps_over, trees_in}
 use Rattle.workspace_lists.specs.Names.{meaning_in}
 use Rattle.session_state.specs.Edits.{IsTypeOf}
-use Rattle.session_state.specs.Meanings.{IsMeaningOf, Stands, Tell, diagram, free, generator, meaning_over, stands_for}
+use Rattle.session_state.specs.Meanings.{IsMeaningOf, Stands, Tell, arrow_between, diagram, free, generator, meaning_over, stands_for}
 use Rattle.session_state.proofs.EditsBack.{front_of}
-use Rattle.session_state.proofs.GainedNames.{Gains, diagram_was_free, gains_diagram, gains_generator, generator_was_free}
+use Rattle.session_state.proofs.GainedNames.{Gains, gains_diagram, gains_generator, gains_map, with_diagram_at, with_last, with_map_at}
 
 -- the table after a name got another meaning
 abbrev pub Replaces : Names → Names → List ℕ → Meaning → Type 0
@@ -62,81 +63,105 @@ module _ (c : Contents) (less more : Workspace) (name : List ℕ) (here : Stands
 
 -- ---- the edits
 
-module _ (c : Contents) (gs : List Generator) (ds : List Named) where
-  abbrev pub at : List Generator → List Named → Lists
-  at xs ys = record { generators = xs; diagrams = ys }
+-- lists of the three kinds
+abbrev pub lists_at : List Generator → List Named → List NamedMap → Lists
+lists_at gs ds ms = record { generators = gs; diagrams = ds; maps = ms }
+
+-- a list with one item more, and what it is over a store
+map-insert : {X Y : Type 0} (f : X → Y) (xs : List X) (i : ℕ) (x : X) → map f (insert xs i x) ≡ insert (map f xs) i (f x)
+map-insert {X} f xs i x = map-append f (take i xs) (x ∷ drop i xs) ∙ (λ j. sym (take-map f i xs) j ++ f x ∷ sym (drop-map i xs) j)
+  where
+    drop-map : (n : ℕ) (ys : List X) → drop n (map f ys) ≡ map f (drop n ys)
+    drop-map zero ys = refl
+    drop-map (suc n) [] = refl
+    drop-map (suc n) (y ∷ ys) = drop-map n ys
+
+module _ (c : Contents) (gs : List Generator) (ds : List Named) (ms : List NamedMap) where
+  abbrev before : Workspace
+  before = trees_in c (lists_at gs ds ms)
 
   module _ (g : Generator) where
-    pub pushed : trees_in c (at (gs ++ g ∷ []) ds) ≡ record { generators = generators_over c gs ++ generator_over c g ∷ []; diagrams = diagrams_over c ds }
-    pushed = ap (λ hs. let w : Workspace = record { generators = hs; diagrams = diagrams_over c ds } in w) (map-append (generator_over c) gs (g ∷ []))
+    abbrev with_generator : Workspace
+    with_generator = trees_in c (lists_at (gs ++ g ∷ []) ds ms)
 
-    generator_gains : IsWorkspace (trees_in c (at (gs ++ g ∷ []) ds))
-        → Gains (trees_in c (at gs ds)) (trees_in c (at (gs ++ g ∷ []) ds)) g.name (generator (type_of_generator (length gs) (generator_in c g.boundary)))
+    abbrev its_type : Stands
+    its_type = generator (type_of_generator (length gs) (generator_in c g.boundary))
+
+    pushed : with_generator ≡ with_last (generators_over c gs) (diagrams_over c ds) (maps_over c ms) (generator_over c g)
+    pushed = ap (λ hs. let w : Workspace = record { generators = hs; diagrams = diagrams_over c ds; maps = maps_over c ms } in w) (map-append (generator_over c) gs (g ∷ []))
+
+    generator_gains : IsWorkspace with_generator → Gains before with_generator g.name its_type
     generator_gains rule =
         let w = subst IsWorkspace pushed rule in
-        let none = generator_was_free (generators_over c gs) (diagrams_over c ds) (generator_over c g) w.once in
-        subst (λ W. Gains (trees_in c (at gs ds)) W g.name (generator (type_of_generator (length gs) (generator_in c g.boundary)))) (sym pushed)
-        (subst (λ n. Gains (trees_in c (at gs ds)) (record { generators = generators_over c gs ++ generator_over c g ∷ []; diagrams = diagrams_over c ds }) g.name (generator (type_of_generator n (generator_in c g.boundary)))) (length-map gs (generator_over c))
-        (gains_generator (generators_over c gs) (diagrams_over c ds) (generator_over c g) none))
+        subst (λ W. Gains before W g.name its_type) (sym pushed)
+        (subst (λ n. Gains before (with_last (generators_over c gs) (diagrams_over c ds) (maps_over c ms) (generator_over c g)) g.name (generator (type_of_generator n (generator_in c g.boundary)))) (length-map gs (generator_over c))
+        (gains_generator (generators_over c gs) (diagrams_over c ds) (maps_over c ms) (generator_over c g) w.once))
 
     pub tell_put_generator : (m : Meaning) (old new : Names) → Replaces old new g.name m → IsTypeOf c (length gs) g m
-        → IsWorkspace (trees_in c (at (gs ++ g ∷ []) ds)) → Tell c (trees_in c (at gs ds)) old → Tell c (trees_in c (at (gs ++ g ∷ []) ds)) new
+        → IsWorkspace with_generator → Tell c before old → Tell c with_generator new
     tell_put_generator m old new replaced typed rule tell =
-        gained c (trees_in c (at gs ds)) (trees_in c (at (gs ++ g ∷ []) ds)) g.name (generator (type_of_generator (length gs) (generator_in c g.boundary))) (generator_gains rule) old new m replaced
-        typed.of_store typed.tree tell
+        gained c before with_generator g.name its_type (generator_gains rule) old new m replaced typed.of_store typed.tree tell
 
-    pub tell_take_generator : (old new : Names) → Replaces old new g.name meaning.Free
-        → IsWorkspace (trees_in c (at (gs ++ g ∷ []) ds)) → Tell c (trees_in c (at (gs ++ g ∷ []) ds)) old → Tell c (trees_in c (at gs ds)) new
+    pub tell_take_generator : (old new : Names) → Replaces old new g.name meaning.Free → IsWorkspace with_generator → Tell c with_generator old → Tell c before new
     tell_take_generator old new replaced rule tell =
-        lost c (trees_in c (at gs ds)) (trees_in c (at (gs ++ g ∷ []) ds)) g.name (generator (type_of_generator (length gs) (generator_in c g.boundary))) (generator_gains rule) old new meaning.Free replaced
-        tt refl tell
+        lost c before with_generator g.name its_type (generator_gains rule) old new meaning.Free replaced tt refl tell
 
     -- what the name stood for is the type
-    pub type_was_there : (old : Names) → IsWorkspace (trees_in c (at (gs ++ g ∷ []) ds)) → Tell c (trees_in c (at (gs ++ g ∷ []) ds)) old
-        → IsTypeOf c (length gs) g (meaning_in old g.name)
+    pub type_was_there : (old : Names) → IsWorkspace with_generator → Tell c with_generator old → IsTypeOf c (length gs) g (meaning_in old g.name)
     type_was_there old rule tell = record {
       of_store = tell.of_store g.name;
       tree = tell.means g.name ∙ (generator_gains rule).now;
     }
 
   module _ (i : ℕ) (d : Named) where
-    pub inserted : trees_in c (at gs (insert ds i d)) ≡ record { generators = generators_over c gs; diagrams = insert (diagrams_over c ds) i (diagram_over c d) }
-    inserted =
-        ap (λ es. let w : Workspace = record { generators = generators_over c gs; diagrams = es } in w)
-        (map-append (diagram_over c) (take i ds) (d ∷ drop i ds)
-        ∙ (λ j. sym (take-map (diagram_over c) i ds) j ++ diagram_over c d ∷ sym (drop-map i ds) j))
-      where
-        drop-map : (n : ℕ) (xs : List Named) → drop n (map (diagram_over c) xs) ≡ map (diagram_over c) (drop n xs)
-        drop-map zero xs = refl
-        drop-map (suc n) [] = refl
-        drop-map (suc n) (x ∷ xs) = drop-map n xs
+    abbrev with_diagram : Workspace
+    with_diagram = trees_in c (lists_at gs (insert ds i d) ms)
 
-    diagram_gains : IsWorkspace (trees_in c (at gs (insert ds i d)))
-        → Gains (trees_in c (at gs ds)) (trees_in c (at gs (insert ds i d))) d.name (diagram (diagram_at c d.root))
+    diagram_inserted : with_diagram ≡ with_diagram_at (generators_over c gs) (diagrams_over c ds) (maps_over c ms) i (diagram_over c d)
+    diagram_inserted = ap (λ es. let w : Workspace = record { generators = generators_over c gs; diagrams = es; maps = maps_over c ms } in w) (map-insert (diagram_over c) ds i d)
+
+    diagram_gains : IsWorkspace with_diagram → Gains before with_diagram d.name (diagram (diagram_at c d.root))
     diagram_gains rule =
-        let w = subst IsWorkspace inserted rule in
-        let none = diagram_was_free (generators_over c gs) (diagrams_over c ds) i (diagram_over c d) w.once in
-        subst (λ W. Gains (trees_in c (at gs ds)) W d.name (diagram (diagram_at c d.root))) (sym inserted)
-        (gains_diagram (generators_over c gs) (diagrams_over c ds) i (diagram_over c d) none)
+        let w = subst IsWorkspace diagram_inserted rule in
+        subst (λ W. Gains before W d.name (diagram (diagram_at c d.root))) (sym diagram_inserted)
+        (gains_diagram (generators_over c gs) (diagrams_over c ds) (maps_over c ms) i (diagram_over c d) w.once)
 
     pub tell_put_diagram : (old new : Names) → Replaces old new d.name (meaning.Diagram d.root) → IsDiagramOf c d.root
-        → IsWorkspace (trees_in c (at gs (insert ds i d))) → Tell c (trees_in c (at gs ds)) old → Tell c (trees_in c (at gs (insert ds i d))) new
+        → IsWorkspace with_diagram → Tell c before old → Tell c with_diagram new
     tell_put_diagram old new replaced of_store rule tell =
-        gained c (trees_in c (at gs ds)) (trees_in c (at gs (insert ds i d))) d.name (diagram (diagram_at c d.root)) (diagram_gains rule) old new (meaning.Diagram d.root) replaced
-        of_store refl tell
+        gained c before with_diagram d.name (diagram (diagram_at c d.root)) (diagram_gains rule) old new (meaning.Diagram d.root) replaced of_store refl tell
 
-    pub tell_take_diagram : (old new : Names) → Replaces old new d.name meaning.Free
-        → IsWorkspace (trees_in c (at gs (insert ds i d))) → Tell c (trees_in c (at gs (insert ds i d))) old → Tell c (trees_in c (at gs ds)) new
+    pub tell_take_diagram : (old new : Names) → Replaces old new d.name meaning.Free → IsWorkspace with_diagram → Tell c with_diagram old → Tell c before new
     tell_take_diagram old new replaced rule tell =
-        lost c (trees_in c (at gs ds)) (trees_in c (at gs (insert ds i d))) d.name (diagram (diagram_at c d.root)) (diagram_gains rule) old new meaning.Free replaced
-        tt refl tell
+        lost c before with_diagram d.name (diagram (diagram_at c d.root)) (diagram_gains rule) old new meaning.Free replaced tt refl tell
 
--- ---- lists
+  module _ (i : ℕ) (m : NamedMap) where
+    abbrev with_map : Workspace
+    with_map = trees_in c (lists_at gs ds (insert ms i m))
 
-abbrev pub generators_at : List Generator → List Named → Lists
-generators_at gs ds = record { generators = gs; diagrams = ds }
+    abbrev its_trees : Stands
+    its_trees = arrow_between (diagram_at c m.map.source) (diagram_at c m.map.target) (arrow_at c m.map.arrow)
+
+    map_inserted : with_map ≡ with_map_at (generators_over c gs) (diagrams_over c ds) (maps_over c ms) i (map_over c m)
+    map_inserted = ap (λ ns. let w : Workspace = record { generators = generators_over c gs; diagrams = diagrams_over c ds; maps = ns } in w) (map-insert (map_over c) ms i m)
+
+    map_gains : IsWorkspace with_map → Gains before with_map m.name its_trees
+    map_gains rule =
+        let w = subst IsWorkspace map_inserted rule in
+        subst (λ W. Gains before W m.name its_trees) (sym map_inserted)
+        (gains_map (generators_over c gs) (diagrams_over c ds) (maps_over c ms) i (map_over c m) w.once)
+
+    pub tell_put_map : (old new : Names) → Replaces old new m.name (meaning.Map m.map) → IsMapOf c m.map
+        → IsWorkspace with_map → Tell c before old → Tell c with_map new
+    tell_put_map old new replaced of_store rule tell =
+        gained c before with_map m.name its_trees (map_gains rule) old new (meaning.Map m.map) replaced of_store refl tell
+
+    pub tell_take_map : (old new : Names) → Replaces old new m.name meaning.Free → IsWorkspace with_map → Tell c with_map old → Tell c before new
+    tell_take_map old new replaced rule tell =
+        lost c before with_map m.name its_trees (map_gains rule) old new meaning.Free replaced tt refl tell
 
 -- a generator went from the end
-pub taken_generator : (old new : List Generator) (g : Generator) (ds : List Named) → old ≡ new ++ g ∷ [] → generators_at new ds ≡ generators_at (take (length old - 1) old) ds
-taken_generator old new g ds e =
-    ap (λ (xs : List Generator). generators_at xs ds) (sym (front_of new g) ∙ ap (λ (xs : List Generator). take (length xs - 1) xs) (sym e))
+pub taken_generator : (old new : List Generator) (g : Generator) (ds : List Named) (ms : List NamedMap) → old ≡ new ++ g ∷ []
+    → lists_at new ds ms ≡ lists_at (take (length old - 1) old) ds ms
+taken_generator old new g ds ms e =
+    ap (λ (xs : List Generator). lists_at xs ds ms) (sym (front_of new g) ∙ ap (λ (xs : List Generator). take (length xs - 1) xs) (sym e))

@@ -18,6 +18,8 @@ HasRoomFor w edit.TakeGenerator = Unit {0}
 HasRoomFor w (edit.PutGenerator g m) = length w.generators.items < vec_capacity w.generators
 HasRoomFor w (edit.TakeDiagram place) = Unit {0}
 HasRoomFor w (edit.PutDiagram place d) = length w.diagrams.items < vec_capacity w.diagrams
+HasRoomFor w (edit.TakeMap place) = Unit {0}
+HasRoomFor w (edit.PutMap place m) = length w.maps.items < vec_capacity w.maps
 
 -- A table that tells of the workspace before the edit tells of the one after it. Both hold ids of the store and
 -- are workspaces by the rule. The edit back brings the type of the generator that went.

@@ -1,5 +1,5 @@
 -- Edits: the steps between neighbouring workspaces of a session, over the ids of a store.
-use Rattle.std.specs.Prelude.{◌≡◌, ℕ, ◌+◌, ◌-◌, ◌<◌, ◌≤◌, List, [], ◌∷◌, ◌++◌, length, take, true}
+use Rattle.std.specs.Prelude.{◌≡◌, ℕ, ◌-◌, ◌<◌, ◌≤◌, List, [], ◌∷◌, ◌++◌, length, take, true}
 use Rattle.std.specs.List.{All, insert, remove}
 use Rattle.diagram_terms.specs.GeneratorTypes.{type_of_generator}
 use Rattle.hashcons.specs.Contents.{Contents}
@@ -10,16 +10,19 @@ use Rattle.workspace_lists.specs.declared.names.Names.{Names}
 use Rattle.workspace_lists.specs.declared.workspace.Generator.{Generator}
 use Rattle.workspace_lists.specs.Held.{AreHeld, Lists, trees_in}
 use Rattle.workspace_lists.specs.Names.{knows}
+use Rattle.session_state.specs.Kinds.{puts, takes, of_generators}
 use Rattle.session_state.specs.Meanings.{IsMeaningOf, generator, meaning_over}
 use Rattle.session_state.specs.declared.edit.Edit.{Edit}
 use Rattle.session_state.specs.declared.edit.Edit.TheVariants as edit
 
 -- what an edit makes of the lists
 abbrev pub edited : Lists → Edit → Lists
-edited l edit.TakeGenerator = record { generators = take (length l.generators - 1) l.generators; diagrams = l.diagrams }
-edited l (edit.PutGenerator g m) = record { generators = l.generators ++ g ∷ []; diagrams = l.diagrams }
-edited l (edit.TakeDiagram place) = record { generators = l.generators; diagrams = remove l.diagrams place }
-edited l (edit.PutDiagram place d) = record { generators = l.generators; diagrams = insert l.diagrams place d }
+edited l edit.TakeGenerator = record { generators = take (length l.generators - 1) l.generators; diagrams = l.diagrams; maps = l.maps }
+edited l (edit.PutGenerator g m) = record { generators = l.generators ++ g ∷ []; diagrams = l.diagrams; maps = l.maps }
+edited l (edit.TakeDiagram place) = record { generators = l.generators; diagrams = remove l.diagrams place; maps = l.maps }
+edited l (edit.PutDiagram place d) = record { generators = l.generators; diagrams = insert l.diagrams place d; maps = l.maps }
+edited l (edit.TakeMap place) = record { generators = l.generators; diagrams = l.diagrams; maps = remove l.maps place }
+edited l (edit.PutMap place m) = record { generators = l.generators; diagrams = l.diagrams; maps = insert l.maps place m }
 
 -- the edit names a place of the lists
 abbrev pub IsWithin : Lists → Edit → Type 0
@@ -27,6 +30,8 @@ IsWithin l edit.TakeGenerator = 0 < length l.generators
 IsWithin l (edit.PutGenerator g m) = Unit {0}
 IsWithin l (edit.TakeDiagram place) = place < length l.diagrams
 IsWithin l (edit.PutDiagram place d) = place ≤ length l.diagrams
+IsWithin l (edit.TakeMap place) = place < length l.maps
+IsWithin l (edit.PutMap place m) = place ≤ length l.maps
 
 -- a generator comes with a meaning that is its type
 pub record IsTypeOf (c : Contents) (number : ℕ) (g : Generator) (m : Meaning) : Type 0 where
@@ -38,6 +43,8 @@ HasType c l edit.TakeGenerator = Unit {0}
 HasType c l (edit.PutGenerator g m) = IsTypeOf c (length l.generators) g m
 HasType c l (edit.TakeDiagram place) = Unit {0}
 HasType c l (edit.PutDiagram place d) = Unit {0}
+HasType c l (edit.TakeMap place) = Unit {0}
+HasType c l (edit.PutMap place m) = Unit {0}
 
 -- each edit fits what the edits before it made
 pub record Fits (c : Contents) (l : Lists) (e : Edit) : Type 0 where
@@ -57,46 +64,10 @@ turns l (e ∷ es) = edited l e ∷ turns (edited l e) es
 
 -- no generator is ever taken away but by undoing
 abbrev pub LeadsBack : Edit → Type 0
-LeadsBack edit.TakeGenerator = Unit {0}
-LeadsBack (edit.PutGenerator g m) = ⊥
-LeadsBack (edit.TakeDiagram place) = Unit {0}
-LeadsBack (edit.PutDiagram place d) = Unit {0}
+LeadsBack e = puts of_generators e ≡ 0
 
 abbrev pub LeadsForth : Edit → Type 0
-LeadsForth edit.TakeGenerator = ⊥
-LeadsForth (edit.PutGenerator g m) = Unit {0}
-LeadsForth (edit.TakeDiagram place) = Unit {0}
-LeadsForth (edit.PutDiagram place d) = Unit {0}
-
--- how many generators, and how many diagrams, an edit puts
-abbrev pub put_by : Edit → ℕ
-put_by edit.TakeGenerator = 0
-put_by (edit.PutGenerator g m) = 1
-put_by (edit.TakeDiagram place) = 0
-put_by (edit.PutDiagram place d) = 0
-
-abbrev pub diagrams_put_by : Edit → ℕ
-diagrams_put_by edit.TakeGenerator = 0
-diagrams_put_by (edit.PutGenerator g m) = 0
-diagrams_put_by (edit.TakeDiagram place) = 0
-diagrams_put_by (edit.PutDiagram place d) = 1
-
--- and edits together: so much room they want
-abbrev pub generators_put : List Edit → ℕ
-generators_put [] = 0
-generators_put (e ∷ es) = put_by e + generators_put es
-
-abbrev pub diagrams_put : List Edit → ℕ
-diagrams_put [] = 0
-diagrams_put (e ∷ es) = diagrams_put_by e + diagrams_put es
-
--- One edit puts and the other takes, and both do so with a generator or both with a diagram. Nothing is said of which one.
-abbrev pub AreOfOppositeKinds : Edit → Edit → Type 0
-AreOfOppositeKinds edit.TakeGenerator (edit.PutGenerator g m) = Unit {0}
-AreOfOppositeKinds (edit.PutGenerator g m) edit.TakeGenerator = Unit {0}
-AreOfOppositeKinds (edit.TakeDiagram place) (edit.PutDiagram at d) = Unit {0}
-AreOfOppositeKinds (edit.PutDiagram place d) (edit.TakeDiagram at) = Unit {0}
-AreOfOppositeKinds e other = ⊥
+LeadsForth e = takes of_generators e ≡ 0
 
 -- ---- lists of a session
 
@@ -104,6 +75,7 @@ AreOfOppositeKinds e other = ⊥
 pub record AreKnown (names : Names) (l : Lists) : Type 0 where
   pub generators : All (λ g. knows names g.name ≡ true) l.generators
   pub diagrams : All (λ d. knows names d.name ≡ true) l.diagrams
+  pub maps : All (λ m. knows names m.name ≡ true) l.maps
 
 -- Each workspace of a session is one by the rule.
 pub record IsGoodAt (c : Contents) (names : Names) (l : Lists) : Type 0 where

@@ -1,4 +1,5 @@
 pub mod Meanings
+pub mod Kinds
 pub mod Edits
 pub mod States
 pub mod EditSteps

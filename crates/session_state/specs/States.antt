@@ -13,11 +13,12 @@ use Rattle.session_state.specs.declared.edit.Edit.{Edit}
 use Rattle.session_state.specs.declared.entries.Entries.{Entries}
 use Rattle.session_state.specs.declared.state.State.{State}
 use Rattle.workspace_lists.specs.Held.{Lists, trees_in}
-use Rattle.session_state.specs.Edits.{AllFit, Fits, IsGoodAt, LeadsBack, LeadsForth, diagrams_put, diagrams_put_by, edited, generators_put, turns}
+use Rattle.session_state.specs.Edits.{AllFit, Fits, IsGoodAt, LeadsBack, LeadsForth, edited, turns}
+use Rattle.session_state.specs.Kinds.{total_put, of_diagrams, of_generators, of_maps, puts}
 use Rattle.session_state.specs.Meanings.{Tell}
 
 abbrev pub lists_of : Entries → Lists
-lists_of e = record { generators = e.workspace.generators.items; diagrams = e.workspace.diagrams.items }
+lists_of e = record { generators = e.workspace.generators.items; diagrams = e.workspace.diagrams.items; maps = e.workspace.maps.items }
 
 -- The session: the last edit of the past leads to the latest workspace before, and the last one of the future to the one
 -- that comes next.
@@ -55,9 +56,10 @@ pub record IsHistory (c : Contents) (names : Names) (l : Lists) (past future : L
 pub record HasRoom (s : State) : Type 0 where
   pub past : length s.past.items + length s.future.items ≤ vec_capacity s.past
   pub future : length s.past.items + length s.future.items ≤ vec_capacity s.future
-  pub generators : length s.entries.workspace.generators.items + generators_put s.future.items ≤ vec_capacity s.entries.workspace.generators
-  pub diagrams : length s.entries.workspace.diagrams.items + (diagrams_put s.past.items + diagrams_put s.future.items) ≤ vec_capacity s.entries.workspace.diagrams
-  pub spare : generators_put s.future.items ≤ s.signature.spare
+  pub generators : length s.entries.workspace.generators.items + total_put of_generators s.future.items ≤ vec_capacity s.entries.workspace.generators
+  pub diagrams : length s.entries.workspace.diagrams.items + (total_put of_diagrams s.past.items + total_put of_diagrams s.future.items) ≤ vec_capacity s.entries.workspace.diagrams
+  pub maps : length s.entries.workspace.maps.items + (total_put of_maps s.past.items + total_put of_maps s.future.items) ≤ vec_capacity s.entries.workspace.maps
+  pub spare : total_put of_generators s.future.items ≤ s.signature.spare
 
 pub record IsState (s : State) : Type 0 where
   pub generators : s.signature.entries ≡ entries_over s.entries.workspace.generators.items
@@ -80,13 +82,15 @@ pub record HasRoomForOne (s : State) (name : List ℕ) : Type 0 where
   pub future : length s.past.items + 1 ≤ vec_capacity s.future
   pub generators : length s.entries.workspace.generators.items + 1 ≤ vec_capacity s.entries.workspace.generators
   pub diagrams : length s.entries.workspace.diagrams.items + (1 + length s.past.items) ≤ vec_capacity s.entries.workspace.diagrams
+  pub maps : length s.entries.workspace.maps.items + (1 + length s.past.items) ≤ vec_capacity s.entries.workspace.maps
 
 -- what is enough of it for an edit
 pub record HasRoomForEdit (s : State) (e : Edit) : Type 0 where
   pub past : length s.past.items + 1 ≤ vec_capacity s.past
   pub future : length s.past.items + 1 ≤ vec_capacity s.future
   pub generators : length (edited (lists_of s.entries) e).generators ≤ vec_capacity s.entries.workspace.generators
-  pub diagrams : length s.entries.workspace.diagrams.items + (diagrams_put s.past.items + diagrams_put_by e) ≤ vec_capacity s.entries.workspace.diagrams
+  pub diagrams : length s.entries.workspace.diagrams.items + (total_put of_diagrams s.past.items + puts of_diagrams e) ≤ vec_capacity s.entries.workspace.diagrams
+  pub maps : length s.entries.workspace.maps.items + (total_put of_maps s.past.items + puts of_maps e) ≤ vec_capacity s.entries.workspace.maps
 
 -- An edit may be made as a change: it leads to a good workspace, whose generators the signature has already.
 pub record CanAccept (s : State) (e : Edit) : Type 0 where

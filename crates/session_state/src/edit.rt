@@ -1,4 +1,4 @@
-use workspace_lists::{Generator, Meaning, Named};
+use workspace_lists::{Generator, Meaning, Named, NamedMap};
 
 /// A step from one workspace to a neighbouring one. A session keeps the steps back to earlier
 /// workspaces, and those forth to workspaces that were undone.
@@ -19,5 +19,14 @@ pub enum Edit {
     PutDiagram {
         place: usize,
         diagram: Named,
+    },
+    /// The stored map at a place goes.
+    TakeMap {
+        place: usize,
+    },
+    /// A stored map comes to a place.
+    PutMap {
+        place: usize,
+        map: NamedMap,
     },
 }

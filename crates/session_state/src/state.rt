@@ -5,6 +5,7 @@ use hashcons::{DiagramId, Store};
 use std::alloc::{AllocError, Global};
 use typecheck::Signature;
 use workspace_lists::{Meaning, Names, Workspace};
+use zigzag_maps::Map;
 
 /// What a session keeps. The signature has the generators of the workspace; the edits of the past lead
 /// back to earlier workspaces, and those of the future forth, in each list the next one last.
@@ -21,11 +22,11 @@ impl State {
     ghost use Rattle.std.specs.Prelude.{◌≡◌, ◌≤◌, ◌∷◌, [], true, Some, None, OnOk, IfSome, MatchBool, option_map};
     ghost use Rattle.hashcons.specs.Contents.{IsDiagramOf, diagram_at};
     ghost use Rattle.workspace_json.specs.Sessions.{new_session, undone, redone};
-    ghost use Rattle.workspace_json.specs.Workspaces.{term};
+    ghost use Rattle.workspace_json.specs.Workspaces.{end_named, map_named, reference, term};
     ghost use Rattle.workspace_lists.specs.Names.{knows};
-    ghost use Rattle.workspace_lists.specs.Held.{trees_in};
+    ghost use Rattle.workspace_lists.specs.Held.{IsMapOf, map_called, trees_in};
     ghost use Rattle.session_state.specs.Edits.{edited};
-    ghost use Rattle.session_state.specs.States.{CanAccept, HasRoomForEdit, HasRoomForOne, IsState, Stays, lists_of, session_of};
+    ghost use Rattle.session_state.specs.States.{CanAccept, HasRoomForEdit, HasRoomForOne, IsState, Stays, lists_of, present_of, session_of};
 
     /// Nothing. It takes no memory.
     pub fn new(alloc: Global) -> State
@@ -39,6 +40,7 @@ impl State {
                 workspace: Workspace {
                     generators: Vec::new(alloc),
                     diagrams: Vec::new(alloc),
+                    maps: Vec::new(alloc),
                 },
                 names: Names::new(alloc),
             },
@@ -97,6 +99,7 @@ impl State {
         let count = self.past.len().saturating_add(1);
         self.entries.workspace.generators.reserve(1)?;
         self.entries.workspace.diagrams.reserve(count)?;
+        self.entries.workspace.maps.reserve(count)?;
         self.past.reserve(1)?;
         self.future.reserve(count)
     }
@@ -126,8 +129,57 @@ impl State {
             ≡ term (trees_in self.now.store (lists_of self.now.entries)) name.now }
     {
         match self.entries.names.meaning(name) {
-            Meaning::Free => None,
             Meaning::Generator(d) | Meaning::Diagram(d) => Some(d),
+            Meaning::Free | Meaning::Map(_) => None,
         }
+    }
+
+    /// The stored map of a name.
+    pub fn map_named(&self, name: &str) -> Option<Map>
+        requires { IsState self.now }
+        ensures of_store { IfSome result (λ m. IsMapOf self.now.store m) }
+        ensures map { option_map (map_called self.now.store name.now) result
+            ≡ map_named (present_of self.now).maps name.now }
+    {
+        match self.entries.names.meaning(name) {
+            Meaning::Map(map) => Some(map),
+            Meaning::Free => None,
+            Meaning::Generator(_) => None,
+            Meaning::Diagram(_) => None,
+        }
+    }
+
+    /// The diagram that a reference names: a term, or an end of a stored map.
+    pub fn reference(&self, text: &str) -> Option<DiagramId>
+        requires { IsState self.now }
+        ensures of_store { IfSome result (λ d. IsDiagramOf self.now.store d) }
+        ensures tree { option_map (diagram_at self.now.store) result ≡ reference (present_of self.now) text.now }
+    {
+        match self.term(text) {
+            Some(d) => Some(d),
+            None => self.end_named(text),
+        }
+    }
+
+    /// The end of a stored map, which is named after it, as `NAME:source` or `NAME:target`.
+    fn end_named(&self, text: &str) -> Option<DiagramId>
+        requires { IsState self.now }
+        ensures of_store { IfSome result (λ d. IsDiagramOf self.now.store d) }
+        ensures tree { option_map (diagram_at self.now.store) result
+            ≡ end_named (present_of self.now).maps text.now }
+    {
+        if let Some(name) = text.strip_suffix(":source") {
+            return match self.map_named(name) {
+                Some(map) => Some(map.source),
+                None => None,
+            };
+        }
+        if let Some(name) = text.strip_suffix(":target") {
+            return match self.map_named(name) {
+                Some(map) => Some(map.target),
+                None => None,
+            };
+        }
+        None
     }
 }

@@ -34,8 +34,10 @@ use Rattle.session_state.specs.Meanings.{generator}
 use Rattle.session_state.specs.States.{CanAccept, HasRoomForEdit, HasRoomForOne, IsState, entries_over, lists_of, present_of}
 use Rattle.workspace_lists.proofs.ForCallers.{trees-kept}
 use Rattle.session_state.proofs.GrownSessions.{good-kept, history-kept, telling-kept}
-use Rattle.session_state.proofs.Histories.{diagrams_put-le}
-use Rattle.session_undo.proofs.WorkspaceRules.{IsNew, with_generator_rule}
+use Rattle.session_state.specs.Kinds.{of_diagrams, of_maps}
+use Rattle.session_state.proofs.OppositeEdits.{total_put-le}
+use Rattle.workspace_json.proofs.KeptRules.{IsNew}
+use Rattle.session_undo.proofs.WorkspaceRules.{with_generator_rule}
 use Rattle.session_state.proofs.StateGrowth.{grown}
 use Rattle.session_state.proofs.StateInvariant.{entry, generators_are}
 
@@ -148,6 +150,7 @@ module _ (u : State) (is : IsState u) (c : Contents) (sig : SignatureState) (gro
       (λ i. let w : Workspace = record {
         generators = map-append (generator_over c) u.entries.workspace.generators.items (g ∷ []) i;
         diagrams = (trees_in c (lists_of u.entries)).diagrams;
+        maps = (trees_in c (lists_of u.entries)).maps;
       } in w)
       ∙ (λ i. with_generator (trees-kept u.store c grows (lists_of u.entries) is.history.present.held i) g.name (boundary_is i))
 
@@ -211,20 +214,22 @@ module _ (u : State) (is : IsState u) (c : Contents) (sig : SignatureState) (gro
           };
         };
         good = record {
-          held = record { generators = All-push (IsGeneratorOf c) gs g here.held.generators is_generator_of; diagrams = here.held.diagrams };
-          known = record { generators = All-push (λ (x : Kept). knows u.entries.names x.name ≡ true) gs g here.known.generators known; diagrams = here.known.diagrams };
+          held = record { generators = All-push (IsGeneratorOf c) gs g here.held.generators is_generator_of; diagrams = here.held.diagrams; maps = here.held.maps };
+          known = record { generators = All-push (λ (x : Kept). knows u.entries.names x.name ≡ true) gs g here.known.generators known; diagrams = here.known.diagrams; maps = here.known.maps };
           rule = subst IsWorkspace (sym with_generator_in)
               (with_generator_rule (present_of u) g.name (generator_in u.store b) new signature_rule low few is.history.present.rule);
         };
-        forth = tt;
+        forth = refl;
       }
 
   pub room_to_put_generator : (name : List ℕ) → HasRoomForOne u name → HasRoomForEdit (grown u c sig) put
   room_to_put_generator name room =
-      let few = diagrams_put-le u.past.items in
+      let few = total_put-le of_diagrams u.past.items in
+      let few_maps = total_put-le of_maps u.past.items in
       let n = length_push u.entries.workspace.generators.items g in record {
         past = room.past;
         future = room.future;
         generators = let r = room.generators in omega arith;
         diagrams = let r = room.diagrams in omega arith;
+        maps = let r = room.maps in omega arith;
       }

@@ -1,8 +1,11 @@
 pub mod AddedGenerators
-pub mod DroppedDiagrams
+pub mod BroughtMaps
+pub mod DroppedThings
 pub mod EqualIds
 pub mod LowTerms
+pub mod MapFaults
 pub mod StoredDiagrams
+pub mod StoredMaps
 pub mod TestedCommands
 pub mod TreeLengths
 pub mod UndoneAndRedone

@@ -10,12 +10,12 @@ use Rattle.diagram_terms.specs.Dimension.{IsDiagramTree, dimension_of, dimension
 use Rattle.diagram_terms.specs.GeneratorTypes.{label_of, type_of_generator}
 use Rattle.diagram_terms.specs.Shape.{IsDiagram}
 use Rattle.diagram_terms.specs.Tree.{Tree, sings}
-use Rattle.diagram_terms.specs.Typing.{Generator, IsGoodGenerator, generator_dim}
+use Rattle.diagram_terms.specs.Typing.{Generator, IsGoodGenerator, first_of, generator_dim}
 use Rattle.diagram_terms.proofs.Dimensions.{diagram_dimension, diagram_parts_of}
 use Rattle.boundary_paths.proofs.ConesBySlices.{type_shape}
 use Rattle.workspace_json.specs.declared.refusal.Refusal.TheVariants as refusal
 use Rattle.workspace_json.specs.Steps.{end_of, known, or_refuse}
-use Rattle.workspace_json.specs.Workspaces.{IsWorkspace, NamedDiagram, NamedGenerator, Workspace, diagram_named, first_there, generators_of, term, type_named}
+use Rattle.workspace_json.specs.Workspaces.{IsWorkspace, NamedDiagram, NamedGenerator, Workspace, diagram_named, generators_of, term, type_named}
 
 low_type : (before : List Generator) (n : ℕ) (g : Generator) → IsGoodGenerator before g → generator_dim g ≤ GREATEST_DIM → dimension_of (type_of_generator n g) ≤ GREATEST_DIM
 low_type before n None h l = let e = dimension_of-point (label_of n None) in omega arith
@@ -58,7 +58,7 @@ diagram_is_low (d ∷ ds) name t h e =
     type_by (bytes_eq d.name name) d.tree (diagram_named ds name) t e (All-head (λ (x : NamedDiagram). dimension_of x.tree ≤ GREATEST_DIM) d ds h)
     (diagram_is_low ds name t (All-tail (λ (x : NamedDiagram). dimension_of x.tree ≤ GREATEST_DIM) d ds h))
 
-first_by : (a b : Option Tree) (t : Tree) → first_there a b ≡ Some t → (a ≡ Some t → dimension_of t ≤ GREATEST_DIM) → (b ≡ Some t → dimension_of t ≤ GREATEST_DIM) → dimension_of t ≤ GREATEST_DIM
+first_by : (a b : Option Tree) (t : Tree) → first_of a b ≡ Some t → (a ≡ Some t → dimension_of t ≤ GREATEST_DIM) → (b ≡ Some t → dimension_of t ≤ GREATEST_DIM) → dimension_of t ≤ GREATEST_DIM
 first_by None b t e h k = k e
 first_by (Some u) b t e h k = h e
 

@@ -1,5 +1,5 @@
 -- Changes of what a session keeps.
-use Rattle.std.proofs.Common.{◌≡◌, ℕ, ◌≤◌, List, [], ◌∷◌, ◌++◌, length, map, true, All, Result, Ok, sym, ap, subst, ◌∙◌, arith}
+use Rattle.std.proofs.Common.{◌≡◌, ℕ, ◌≤◌, List, [], ◌∷◌, ◌++◌, length, map, true, All, Result, Ok, sym, ap, subst, ◌∙◌, arith, refl}
 use Rattle.std.specs.List.{insert}
 use Rattle.std.proofs.lemmas.List.{map-append}
 use Rattle.std.proofs.lemmas.List.Edits.{insert_end}
@@ -19,6 +19,7 @@ use Rattle.workspace_json.specs.declared.reply.Word.{Word}
 use Rattle.workspace_json.specs.Sessions.{Session, Stepped, change}
 use Rattle.workspace_json.specs.Steps.{◌>>=◌, length_in, stored, well_typed}
 use Rattle.workspace_json.specs.Workspaces.{IsWorkspace, Workspace, generators_of, with_diagram}
+use Rattle.workspace_json.proofs.KeptRules.{IsNew}
 use Rattle.workspace_lists.specs.declared.workspace.Named.{Named}
 use Rattle.workspace_lists.specs.Held.{Lists, diagram_over, trees_in}
 use Rattle.workspace_lists.specs.Names.{knows}
@@ -27,16 +28,17 @@ use Rattle.session_state.specs.declared.edit.Edit.TheVariants as edit
 use Rattle.session_state.specs.declared.state.State.{State}
 use Rattle.session_state.specs.Edits.{edited}
 use Rattle.session_state.specs.States.{CanAccept, HasRoomForEdit, HasRoomForOne, IsState, lists_of, present_of}
-use Rattle.session_state.proofs.Histories.{diagrams_put-le}
+use Rattle.session_state.specs.Kinds.{of_diagrams, of_maps}
+use Rattle.session_state.proofs.OppositeEdits.{total_put-le}
 use Rattle.session_undo.proofs.TreeLengths.{tree_length}
-use Rattle.session_undo.proofs.WorkspaceRules.{IsNew, with_diagram_rule}
+use Rattle.session_undo.proofs.WorkspaceRules.{with_diagram_rule}
 
 -- ---- a diagram is stored
 
 pub with_diagram_in : (c : Contents) (l : Lists) (place : ℕ) (d : Named) → place ≡ length l.diagrams
     → trees_in c (edited l (edit.PutDiagram place d)) ≡ with_diagram (trees_in c l) d.name (diagram_at c d.root)
 with_diagram_in c l place d e =
-    ap (λ ds. let w : Workspace = record { generators = (trees_in c l).generators; diagrams = ds } in w)
+    ap (λ ds. let w : Workspace = record { generators = (trees_in c l).generators; diagrams = ds; maps = (trees_in c l).maps } in w)
     (ap (λ ds. map (diagram_over c) ds) (ap (λ n. insert l.diagrams n d) e ∙ insert_end l.diagrams d) ∙ map-append (diagram_over c) l.diagrams (d ∷ []))
 
 module _ (s : State) (is : IsState s) (d : Named) (place : ℕ) (last : place ≡ length s.entries.workspace.diagrams.items) where
@@ -58,24 +60,28 @@ module _ (s : State) (is : IsState s) (d : Named) (place : ℕ) (last : place �
           held = record {
             generators = here.held.generators;
             diagrams = subst (All (λ (e : Named). IsDiagramOf s.store e.root)) (sym longer) (All-push (λ (e : Named). IsDiagramOf s.store e.root) s.entries.workspace.diagrams.items d here.held.diagrams of_store);
+            maps = here.held.maps;
           };
           known = record {
             generators = here.known.generators;
             diagrams = subst (All (λ (e : Named). knows s.entries.names e.name ≡ true)) (sym longer) (All-push (λ (e : Named). knows s.entries.names e.name ≡ true) s.entries.workspace.diagrams.items d here.known.diagrams known);
+            maps = here.known.maps;
           };
           rule = subst IsWorkspace (sym (with_diagram_in s.store (lists_of s.entries) place d last))
               (with_diagram_rule (present_of s) d.name (diagram_at s.store d.root) new typed low here.rule);
         };
-        forth = tt;
+        forth = refl;
       }
 
   pub room_to_put_diagram : (name : List ℕ) → HasRoomForOne s name → HasRoomForEdit s put
   room_to_put_diagram name room =
-      let few = diagrams_put-le s.past.items in record {
+      let few = total_put-le of_diagrams s.past.items in
+      let few_maps = total_put-le of_maps s.past.items in record {
         past = room.past;
         future = room.future;
         generators = let r = room.generators in omega arith;
         diagrams = let r = room.diagrams in omega arith;
+        maps = let r = room.maps in omega arith;
       }
 
 -- ---- what a change comes to

@@ -1,7 +1,8 @@
 -- Commands, test by test.
-use Rattle.std.proofs.Common.{◌≡◌, ℕ, List, Bool, Some, None, Result, Ok, Err, refl, ap, subst, ◌∙◌}
+use Rattle.std.proofs.Common.{◌≡◌, ℕ, List, Bool, Result, Ok, Err, refl, ap, subst, ◌∙◌}
 use Rattle.std.specs.Prelude.{nat_lt}
 use Rattle.diagram_terms.specs.declared.limits.TheConstants.{GREATEST_DIM}
+use Rattle.diagram_terms.specs.declared.node.Node.{Node}
 use Rattle.diagram_terms.specs.declared.place.Height.{Height}
 use Rattle.diagram_terms.specs.declared.place.Side.{Side}
 use Rattle.diagram_terms.specs.Completion.{same_tree}
@@ -14,9 +15,11 @@ use Rattle.workspace_json.specs.declared.refusal.Refusal.TheVariants as refusal
 use Rattle.workspace_json.specs.declared.reply.Reply.{Reply}
 use Rattle.workspace_json.specs.declared.reply.Reply.TheVariants as reply
 use Rattle.workspace_json.specs.declared.reply.Word.TheVariants as word
+use Rattle.workspace_json.specs.Maps.{NamedMap, composite_map, map_fault}
+use Rattle.workspace_json.specs.MapSteps.{added, bring_change, compose_change, known_map, map_at}
 use Rattle.workspace_json.specs.Sessions.{Session, change, read}
-use Rattle.workspace_json.specs.Steps.{◌>>=◌, Changed, boundary_change, drop_change, end_of, equal_answer, identity_change, known, new_name, or_refuse, refuse_unless, slice_answer, slice_found, stored}
-use Rattle.workspace_json.specs.Workspaces.{Workspace, diagram_named, without_diagram}
+use Rattle.workspace_json.specs.Steps.{◌>>=◌, Changed, boundary_change, drop_change, end_of, equal_answer, identity_change, known, new_name, no_fault, referred, refuse_unless, slice_answer, slice_found, stored}
+use Rattle.workspace_json.specs.Workspaces.{Workspace, can_be_dropped, without}
 use Rattle.session_undo.specs.declared.stop.Stop.{Stop}
 use Rattle.session_undo.specs.declared.stop.Stop.TheVariants as stop
 use Rattle.session_undo.specs.Outcomes.{Answers, ComesTo}
@@ -89,41 +92,91 @@ module _ (W : Workspace) (name of : List ℕ) (end : Side) where
 -- ---- drop
 
 module _ (W : Workspace) (name : List ℕ) where
-  abbrev dropped : Tree → Result Changed Refusal
-  dropped t = Ok record { reply = reply.Named name word.Drop; workspace = without_diagram W name }
+  abbrev pub dropped : Changed
+  dropped = record { reply = reply.Named name word.Drop; workspace = without W name }
 
-  pub drop_unknown : diagram_named W.diagrams name ≡ None → drop_change W name ≡ Err (refusal.Unknown name)
+  pub drop_tested : (b : Bool) → can_be_dropped W name ≡ b → drop_change W name ≡ (refuse_unless b (refusal.Unknown name) >>= λ _. Ok dropped)
   unfolding drop_change
-  drop_unknown e = ap (λ o. or_refuse (refusal.Unknown name) o >>= dropped) e
+  drop_tested b e = ap (λ c. refuse_unless c (refusal.Unknown name) >>= λ _. Ok dropped) e
 
-  pub drop_known : (t : Tree) → diagram_named W.diagrams name ≡ Some t → drop_change W name ≡ Ok record { reply = reply.Named name word.Drop; workspace = without_diagram W name }
-  unfolding drop_change
-  drop_known t e = ap (λ o. or_refuse (refusal.Unknown name) o >>= dropped) e
+-- ---- bring
+
+module _ (W : Workspace) (name : List ℕ) (nodes : List Node) (source target arrow : ℕ) where
+  abbrev its_map : NamedMap
+  its_map = map_at name nodes source target arrow
+
+  abbrev bring_named : Unit {0} → Result Changed Refusal
+  bring_named u = no_fault (map_fault its_map) >>= λ _. Ok (added W word.Bring its_map)
+
+  pub bring_unnamed : (r : Refusal) → new_name W name ≡ Err r → bring_change W name nodes source target arrow ≡ Err r
+  unfolding bring_change
+  bring_unnamed r e = ap (λ (x : Result (Unit {0}) Refusal). x >>= bring_named) e
+
+  pub bring_invalid : (r : Refusal) → new_name W name ≡ Ok tt → no_fault (map_fault its_map) ≡ Err r → bring_change W name nodes source target arrow ≡ Err r
+  unfolding bring_change
+  bring_invalid r e f = ap (λ (x : Result (Unit {0}) Refusal). x >>= bring_named) e ∙ ap (λ (x : Result (Unit {0}) Refusal). x >>= λ _. Ok (added W word.Bring its_map)) f
+
+  pub bring_valid : new_name W name ≡ Ok tt → no_fault (map_fault its_map) ≡ Ok tt → bring_change W name nodes source target arrow ≡ Ok (added W word.Bring its_map)
+  unfolding bring_change
+  bring_valid e f = ap (λ (x : Result (Unit {0}) Refusal). x >>= bring_named) e ∙ ap (λ (x : Result (Unit {0}) Refusal). x >>= λ _. Ok (added W word.Bring its_map)) f
+
+-- ---- compose
+
+module _ (W : Workspace) (name first second : List ℕ) where
+  abbrev compose_met : NamedMap → NamedMap → Bool → Result Changed Refusal
+  compose_met f g b = refuse_unless b refusal.EndsDiffer >>= λ _. Ok (added W word.Compose (composite_map name g f))
+
+  abbrev compose_second : NamedMap → Result Changed Refusal
+  compose_second f = known_map W second >>= λ g. compose_met f g (same_tree f.target g.source)
+
+  abbrev compose_named : Unit {0} → Result Changed Refusal
+  compose_named u = known_map W first >>= compose_second
+
+  pub compose_unnamed : (r : Refusal) → new_name W name ≡ Err r → compose_change W name first second ≡ Err r
+  unfolding compose_change
+  compose_unnamed r e = ap (λ (x : Result (Unit {0}) Refusal). x >>= compose_named) e
+
+  pub compose_no_first : (r : Refusal) → new_name W name ≡ Ok tt → known_map W first ≡ Err r → compose_change W name first second ≡ Err r
+  unfolding compose_change
+  compose_no_first r e f = ap (λ (x : Result (Unit {0}) Refusal). x >>= compose_named) e ∙ ap (λ x. x >>= compose_second) f
+
+  pub compose_no_second : (m : NamedMap) (r : Refusal) → new_name W name ≡ Ok tt → known_map W first ≡ Ok m → known_map W second ≡ Err r → compose_change W name first second ≡ Err r
+  unfolding compose_change
+  compose_no_second m r e f g =
+      ap (λ (x : Result (Unit {0}) Refusal). x >>= compose_named) e ∙ ap (λ x. x >>= compose_second) f
+      ∙ ap (λ x. x >>= λ n. compose_met m n (same_tree m.target n.source)) g
+
+  pub compose_tested : (m n : NamedMap) (b : Bool) → new_name W name ≡ Ok tt → known_map W first ≡ Ok m → known_map W second ≡ Ok n → same_tree m.target n.source ≡ b
+      → compose_change W name first second ≡ compose_met m n b
+  unfolding compose_change
+  compose_tested m n b e f g h =
+      ap (λ (x : Result (Unit {0}) Refusal). x >>= compose_named) e ∙ ap (λ x. x >>= compose_second) f
+      ∙ ap (λ x. x >>= λ k. compose_met m k (same_tree m.target k.source)) g ∙ ap (compose_met m n) h
 
 -- ---- slice and equal
 
 module _ (W : Workspace) (of : List ℕ) (path : List Height) where
-  pub slice_unknown : (r : Refusal) → known W of ≡ Err r → slice_answer W of path ≡ Err r
+  pub slice_unknown : (r : Refusal) → referred W of ≡ Err r → slice_answer W of path ≡ Err r
   unfolding slice_answer
   slice_unknown r e = ap (λ x. x >>= λ t. slice_found (slice_along t path)) e
 
-  pub slice_of : (t : Tree) (o : Result Tree ℕ) → known W of ≡ Ok t → slice_along t path ≡ o → slice_answer W of path ≡ slice_found o
+  pub slice_of : (t : Tree) (o : Result Tree ℕ) → referred W of ≡ Ok t → slice_along t path ≡ o → slice_answer W of path ≡ slice_found o
   unfolding slice_answer
   slice_of t o e f = ap (λ x. x >>= λ u. slice_found (slice_along u path)) e ∙ ap slice_found f
 
 module _ (W : Workspace) (one two : List ℕ) where
   abbrev second_of : Tree → Result Reply Refusal
-  second_of s = known W two >>= λ t. Ok (reply.Equal (same_tree s t))
+  second_of s = referred W two >>= λ t. Ok (reply.Equal (same_tree s t))
 
-  pub one_unknown : (r : Refusal) → known W one ≡ Err r → equal_answer W one two ≡ Err r
+  pub one_unknown : (r : Refusal) → referred W one ≡ Err r → equal_answer W one two ≡ Err r
   unfolding equal_answer
   one_unknown r e = ap (λ x. x >>= second_of) e
 
-  pub two_unknown : (s : Tree) (r : Refusal) → known W one ≡ Ok s → known W two ≡ Err r → equal_answer W one two ≡ Err r
+  pub two_unknown : (s : Tree) (r : Refusal) → referred W one ≡ Ok s → referred W two ≡ Err r → equal_answer W one two ≡ Err r
   unfolding equal_answer
   two_unknown s r e f = ap (λ x. x >>= second_of) e ∙ ap (λ x. x >>= λ t. Ok (reply.Equal (same_tree s t))) f
 
-  pub both_known : (s t : Tree) → known W one ≡ Ok s → known W two ≡ Ok t → equal_answer W one two ≡ Ok (reply.Equal (same_tree s t))
+  pub both_known : (s t : Tree) → referred W one ≡ Ok s → referred W two ≡ Ok t → equal_answer W one two ≡ Ok (reply.Equal (same_tree s t))
   unfolding equal_answer
   both_known s t e f = ap (λ x. x >>= second_of) e ∙ ap (λ x. x >>= λ u. Ok (reply.Equal (same_tree s u))) f
 

@@ -1,62 +1,17 @@
--- Workspaces by the rule, after a change.
-use Rattle.std.proofs.Common.{◌≡◌, ℕ, suc, ◌+◌, ◌≤◌, List, [], ◌∷◌, ◌++◌, zero, length, slice_get, take, drop, map, cond, Bool, true, false, All, Option, Some, None, is_none, Ok, refl, sym, ap, subst, ◌∙◌, arith}
-use Rattle.std.specs.List.{count_by, remove}
-use Rattle.std.specs.Prelude.{bytes_eq}
-use Rattle.std.proofs.lemmas.List.{append_assoc, drop_at, map-append, take_at}
+-- Workspaces by the rule, with one thing more.
+use Rattle.std.proofs.Common.{◌≡◌, ℕ, zero, suc, ◌≤◌, List, [], ◌∷◌, ◌++◌, length, slice_get, take, drop, map, true, All, Option, Some, None, sym, ap, subst, ◌∙◌, refl}
+use Rattle.std.specs.List.{remove}
+use Rattle.std.proofs.lemmas.List.{map-append}
 use Rattle.std.proofs.lemmas.List.Elements.{All-append, All-drop, All-push, All-take, All-weaker}
+use Rattle.diagram_terms.specs.declared.limits.TheConstants.{GREATEST_DIM, MAX_GENERATORS}
 use Rattle.diagram_terms.specs.Decoded.{dia}
 use Rattle.diagram_terms.specs.Dimension.{dimension_of}
 use Rattle.diagram_terms.specs.Points.{Point, points}
 use Rattle.diagram_terms.specs.Tree.{Tree}
 use Rattle.diagram_terms.specs.Typing.{Generator, IsGoodSignature, IsWellTyped, generator_dim, has_dim, is_generator}
 use Rattle.node_json.specs.Names.{is_good_name}
-use Rattle.workspace_json.specs.declared.refusal.Refusal.{Refusal}
-use Rattle.workspace_json.specs.declared.refusal.Refusal.TheVariants as refusal
-use Rattle.workspace_json.specs.Steps.{◌>>=◌, new_name, refuse_unless}
-use Rattle.workspace_json.specs.Workspaces.{IsWorkspace, NamedDiagram, NamedGenerator, Workspace, diagram_named, first_there, generators_of, names_of, term, type_named, with_diagram, with_generator}
-use Rattle.session_state.specs.Meanings.{free, stands_by, stands_for}
-use Rattle.session_state.proofs.GainedNames.{count-append, count-cons, count-generator, free_is_unused, is_name}
-use Rattle.std.proofs.lemmas.Slice.Eq.{bytes_eq-Decides}
-use Rattle.diagram_terms.specs.declared.limits.TheConstants.{GREATEST_DIM, MAX_GENERATORS}
-
--- ---- a new name
-
-pub record IsNew (W : Workspace) (name : List ℕ) : Type 0 where
-  pub good : is_good_name name ≡ true
-  pub free_name : stands_for W name ≡ free
-
-nothing_there : (a b : Option Tree) → is_none (first_there a b) ≡ true → stands_by a b ≡ free
-nothing_there None None e = refl
-nothing_there None (Some t) e = absurd (let z : ⊥ = cc in z)
-nothing_there (Some t) b e = absurd (let z : ⊥ = cc in z)
-
-passed : (b : Bool) (r : Refusal) → refuse_unless b r ≡ Ok tt → b ≡ true
-passed true r e = refl
-passed false r e = absurd (let z : ⊥ = cc in z)
-
-both_passed : (a b : Bool) (r q : Refusal) → (refuse_unless a r >>= λ _. refuse_unless b q) ≡ Ok tt → (a ≡ true) × (b ≡ true)
-both_passed true b r q e = (refl, passed b q e)
-both_passed false b r q e = absurd (let z : ⊥ = cc in z)
-
-pub is_new : (W : Workspace) (name : List ℕ) → new_name W name ≡ Ok tt → IsNew W name
-is_new W name e =
-    let h = both_passed (is_good_name name) (is_none (term W name)) refusal.NameBad refusal.NameTaken e in
-    record { good = h.0; free_name = nothing_there (type_named 0 W.generators name) (diagram_named W.diagrams name) h.1 }
-
--- ---- names that stand once
-
--- with a name that none of them is
-one_more_by : (other name : List ℕ) (b : Bool) (n m : ℕ) → bytes_eq name other ≡ b → n ≤ 1 → (other ≡ name → n ≡ 0) → m ≡ n + cond b 1 0 → m ≤ 1
-one_more_by other name true n m e h z k = let same : other ≡ name = sym ((bytes_eq-Decides name other).0 e) in let none = z same in omega arith
-one_more_by other name false n m e h z k = omega arith
-
-pub once_more : (names : List (List ℕ)) (name : List ℕ) → ((other : List ℕ) → count_by (is_name other) names ≤ 1) → count_by (is_name name) names ≡ 0
-    → (other : List ℕ) → count_by (is_name other) (names ++ name ∷ []) ≤ 1
-once_more names name once none other =
-    let more = count-append other names (name ∷ []) in
-    let one = count-cons other name [] in
-    one_more_by other name (bytes_eq name other) (count_by (is_name other) names) (count_by (is_name other) (names ++ name ∷ [])) refl (once other)
-    (λ same. ap (λ q. count_by (is_name q) names) same ∙ none) (omega arith)
+use Rattle.workspace_json.specs.Workspaces.{IsWorkspace, NamedDiagram, NamedGenerator, Workspace, generators_of, names_of, with_diagram, with_generator}
+use Rattle.workspace_json.proofs.KeptRules.{IsNew, all_good, count_of, diagram_names, first_more, generator_names, good_diagrams, good_generators, good_maps, map_names, once_more, second_more}
 
 -- ---- more generators
 
@@ -87,53 +42,44 @@ well_typed-more gs hs t h = record {
 pub with_diagram_rule : (W : Workspace) (name : List ℕ) (t : Tree) → IsNew W name → IsWellTyped (generators_of W) t → dimension_of t ≤ GREATEST_DIM → IsWorkspace W → IsWorkspace (with_diagram W name t)
 with_diagram_rule W name t new typed low h =
     let d : NamedDiagram = record { name = name; tree = t } in
-    let names : names_of (with_diagram W name t) ≡ names_of W ++ name ∷ [] =
-    ap (λ ns. map (λ g. g.name) W.generators ++ ns) (map-append (λ (e : NamedDiagram). e.name) W.diagrams (d ∷ []))
-    ∙ sym (append_assoc (map (λ g. g.name) W.generators) (map (λ e. e.name) W.diagrams) (name ∷ [])) in
+    let IsGood : List ℕ → Type 0 = λ n. is_good_name n ≡ true in
+    let names : map (λ e. e.name) (W.diagrams ++ d ∷ []) ≡ diagram_names W ++ name ∷ [] = map-append (λ (e : NamedDiagram). e.name) W.diagrams (d ∷ []) in
     record {
-      good_names = subst (All (λ (n : List ℕ). is_good_name n ≡ true)) (sym names) (All-push (λ (n : List ℕ). is_good_name n ≡ true) (names_of W) name h.good_names new.good);
-      once = subst (λ (ns : List (List ℕ)). (other : List ℕ) → count_by (is_name other) ns ≤ 1) (sym names)
-          (once_more (names_of W) name h.once (free_is_unused W.generators W.diagrams name new.free_name));
+      good_names = subst (λ (ns : List (List ℕ)). All IsGood (generator_names W ++ ns ++ map_names W)) (sym names)
+          (all_good (generator_names W) (diagram_names W ++ name ∷ []) (map_names W) (good_generators W h) (All-push IsGood (diagram_names W) name (good_diagrams W h) new.good) (good_maps W h));
+      once = subst (λ (ns : List (List ℕ)). (other : List ℕ) → count_of other (generator_names W ++ ns ++ map_names W) ≤ 1) (sym names)
+          (once_more (names_of W) (generator_names W ++ (diagram_names W ++ name ∷ []) ++ map_names W) name h.once new.unused (second_more name (generator_names W) (diagram_names W) (map_names W)));
       signature = h.signature;
       typed = All-push (λ (e : NamedDiagram). IsWellTyped (generators_of W) e.tree) W.diagrams d h.typed typed;
+      valid = h.valid;
       generator_dims = h.generator_dims;
       diagram_dims = All-push (λ (e : NamedDiagram). dimension_of e.tree ≤ GREATEST_DIM) W.diagrams d h.diagram_dims low;
       few = h.few;
     }
 
--- ---- one diagram less
+-- ---- one thing less
 
 pub all_removed : {X : Type 0} (P : X → Type 0) (i : ℕ) (xs : List X) → All P xs → All P (remove xs i)
 all_removed P i xs h = All-append P (take i xs) (drop (suc i) xs) (All-take P i xs h) (All-drop P (suc i) xs h)
 
 -- ---- one generator more
 
-pub all_left : {X : Type 0} (P : X → Type 0) (xs ys : List X) → All P (xs ++ ys) → All P xs
-all_left P xs ys h = subst (All P) (take_at xs ys (length xs) refl) (All-take P (length xs) (xs ++ ys) h)
-
-pub all_right : {X : Type 0} (P : X → Type 0) (xs ys : List X) → All P (xs ++ ys) → All P ys
-all_right P xs ys h = subst (All P) (drop_at xs ys (length xs) refl) (All-drop P (length xs) (xs ++ ys) h)
-
 pub with_generator_rule : (W : Workspace) (name : List ℕ) (g : Generator) → IsNew W name → IsGoodSignature (generators_of (with_generator W name g)) → generator_dim g ≤ GREATEST_DIM → length (with_generator W name g).generators ≤ MAX_GENERATORS → IsWorkspace W → IsWorkspace (with_generator W name g)
 with_generator_rule W name g new good low few h =
     let x : NamedGenerator = record { name = name; generator = g } in
     let IsGood : List ℕ → Type 0 = λ n. is_good_name n ≡ true in
-    let generator_names = map (λ (y : NamedGenerator). y.name) W.generators in
-    let diagram_names = map (λ (e : NamedDiagram). e.name) W.diagrams in
+    let names : map (λ y. y.name) (W.generators ++ x ∷ []) ≡ generator_names W ++ name ∷ [] = map-append (λ (y : NamedGenerator). y.name) W.generators (x ∷ []) in
     let gens : generators_of (with_generator W name g) ≡ generators_of W ++ g ∷ [] = map-append (λ (y : NamedGenerator). y.generator) W.generators (x ∷ []) in
     record {
-      good_names = All-append IsGood (map (λ y. y.name) (W.generators ++ x ∷ [])) diagram_names
-          (subst (All IsGood) (sym (map-append (λ (y : NamedGenerator). y.name) W.generators (x ∷ [])))
-          (All-push IsGood generator_names name (all_left IsGood generator_names diagram_names h.good_names) new.good))
-          (all_right IsGood generator_names diagram_names h.good_names);
-      once = λ other.
-          one_more_by other name (bytes_eq name other) (count_by (is_name other) (names_of W)) (count_by (is_name other) (names_of (with_generator W name g))) refl (h.once other)
-          (λ same. ap (λ q. count_by (is_name q) (names_of W)) same ∙ free_is_unused W.generators W.diagrams name new.free_name)
-          (count-generator W.generators W.diagrams x other);
+      good_names = subst (λ (ns : List (List ℕ)). All IsGood (ns ++ diagram_names W ++ map_names W)) (sym names)
+          (all_good (generator_names W ++ name ∷ []) (diagram_names W) (map_names W) (All-push IsGood (generator_names W) name (good_generators W h) new.good) (good_diagrams W h) (good_maps W h));
+      once = subst (λ (ns : List (List ℕ)). (other : List ℕ) → count_of other (ns ++ diagram_names W ++ map_names W) ≤ 1) (sym names)
+          (once_more (names_of W) ((generator_names W ++ name ∷ []) ++ diagram_names W ++ map_names W) name h.once new.unused (first_more name (generator_names W) (diagram_names W) (map_names W)));
       signature = good;
       typed = subst (λ (gs : List Generator). All (λ (e : NamedDiagram). IsWellTyped gs e.tree) W.diagrams) (sym gens)
           (All-weaker (λ (e : NamedDiagram). IsWellTyped (generators_of W) e.tree) (λ (e : NamedDiagram). IsWellTyped (generators_of W ++ g ∷ []) e.tree)
           (λ e k. well_typed-more (generators_of W) (g ∷ []) e.tree k) W.diagrams h.typed);
+      valid = h.valid;
       generator_dims = subst (All (λ (y : Generator). generator_dim y ≤ GREATEST_DIM)) (sym gens) (All-push (λ (y : Generator). generator_dim y ≤ GREATEST_DIM) (generators_of W) g h.generator_dims low);
       diagram_dims = h.diagram_dims;
       few = few;

@@ -1,10 +1,12 @@
 -- What a command comes to over what a session keeps, and what a question is answered.
-use Rattle.std.specs.Prelude.{◌≡◌, ℕ, List, position, bytes_eq, Option, Result, Ok, Err}
+use Rattle.std.specs.Prelude.{◌≡◌, ℕ, List, position, bytes_eq, Option, Some, None, Result, Ok, Err}
 use Rattle.workspace_json.specs.declared.refusal.Refusal.{Refusal}
 use Rattle.workspace_json.specs.declared.reply.Reply.{Reply}
 use Rattle.workspace_json.specs.declared.reply.Reply.TheVariants as reply
 use Rattle.workspace_json.specs.Sessions.{Session, Stepped}
-use Rattle.workspace_lists.specs.declared.workspace.Named.{Named}
+use Rattle.workspace_lists.specs.Held.{Lists}
+use Rattle.session_state.specs.declared.edit.Edit.{Edit}
+use Rattle.session_state.specs.declared.edit.Edit.TheVariants as edit
 use Rattle.session_undo.specs.declared.stop.Stop.{Stop}
 use Rattle.session_undo.specs.declared.stop.Stop.TheVariants as stop
 
@@ -20,6 +22,11 @@ Answers view wanted (Ok x) = wanted ≡ Ok (view x)
 Answers view wanted (Err (stop.Refused r)) = wanted ≡ Err r
 Answers view wanted (Err stop.NoMemory) = Unit {0}
 
--- the first place of the name among stored diagrams
-abbrev pub IsPlaceOf : List Named → List ℕ → Option ℕ → Type 0
-IsPlaceOf ds name place = place ≡ position (λ d. bytes_eq d.name name) ds
+-- the edit that takes away the stored diagram of a name, or else the stored map
+abbrev pub taking_by : Option ℕ → Option ℕ → Option Edit
+taking_by (Some place) other = Some (edit.TakeDiagram place)
+taking_by None (Some place) = Some (edit.TakeMap place)
+taking_by None None = None
+
+abbrev pub taking : Lists → List ℕ → Option Edit
+taking l name = taking_by (position (λ d. bytes_eq d.name name) l.diagrams) (position (λ m. bytes_eq m.name name) l.maps)

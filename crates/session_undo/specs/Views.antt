@@ -3,6 +3,7 @@ use Rattle.std.specs.Prelude.{ℕ, List, Option, refl}
 use Rattle.std.specs.Coded.{Coded, code_by, coded×, coded_list, coded_option, coded_ℕ}
 use Rattle.diagram_terms.specs.Tree.{Tree, coded_tree}
 use Rattle.hashcons.specs.Contents.{Contents, coded_contents}
+use Rattle.workspace_json.specs.Maps.{NamedMap}
 use Rattle.workspace_json.specs.Sessions.{Session}
 use Rattle.workspace_json.specs.Workspaces.{NamedDiagram, NamedGenerator, Workspace}
 
@@ -21,10 +22,15 @@ abbrev pub coded_diagram : Coded NamedDiagram
 coded_diagram =
     code_by (List ℕ × Tree) (coded× (coded_list coded_ℕ) coded_tree) (λ d. (d.name, d.tree)) (λ p. record { name = p.0; tree = p.1 }) (λ _. refl)
 
+abbrev pub coded_map : Coded NamedMap
+coded_map =
+    code_by (List ℕ × (Tree × (Tree × Tree))) (coded× (coded_list coded_ℕ) (coded× coded_tree (coded× coded_tree coded_tree)))
+    (λ m. (m.name, (m.source, (m.target, m.arrow)))) (λ p. record { name = p.0; source = p.1.0; target = p.1.1.0; arrow = p.1.1.1 }) (λ _. refl)
+
 abbrev pub coded_workspace : Coded Workspace
 coded_workspace =
-    code_by (List NamedGenerator × List NamedDiagram) (coded× (coded_list coded_generator) (coded_list coded_diagram))
-    (λ w. (w.generators, w.diagrams)) (λ p. record { generators = p.0; diagrams = p.1 }) (λ _. refl)
+    code_by (List NamedGenerator × (List NamedDiagram × List NamedMap)) (coded× (coded_list coded_generator) (coded× (coded_list coded_diagram) (coded_list coded_map)))
+    (λ w. (w.generators, (w.diagrams, w.maps))) (λ p. record { generators = p.0; diagrams = p.1.0; maps = p.1.1 }) (λ _. refl)
 
 abbrev pub coded_session : Coded Session
 coded_session =

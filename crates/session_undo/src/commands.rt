@@ -1,11 +1,13 @@
 ghost use Rattle.hashcons.specs.Contents.{Grows};
 ghost use Rattle.session_state.specs.States.{IsState, session_of};
+ghost use Rattle.workspace_json.specs.Forms.{HasForm};
 ghost use Rattle.workspace_json.specs.Sessions.{step};
 ghost use Rattle.session_undo.specs.Outcomes.{ComesTo};
 
 use crate::diagrams::{boundary_command, identity_command};
 use crate::dropping::drop_command;
 use crate::generators::generator_command;
+use crate::maps::{bring_command, compose_command};
 use crate::reading::{equal_command, save_command, slice_command, stats_command};
 use crate::stop::Stop;
 use crate::turning::{redo_command, undo_command};
@@ -14,13 +16,22 @@ use workspace_json::{Command, Reply};
 
 /// Does what a command says. Where it goes no further, the session is as it was.
 pub(crate) fn apply(state: &mut State, command: &Command) -> Result<Reply, Stop>
-    requires { IsState state.old }
+    requires state { IsState state.old }
+    requires form { HasForm command.now }
     ensures state { IsState state.new }
     ensures grows { Grows state.old.store state.new.store }
     ensures comes { ComesTo (step (session_of state.old) command.now)
         (session_of state.old) (session_of state.new) result }
 {
     match command {
+        Command::Bring {
+            name,
+            nodes,
+            source,
+            target,
+            arrow,
+        } => bring_command(state, name, nodes.as_slice(), *source, *target, *arrow),
+        Command::Compose { name, first, then_ } => compose_command(state, name, first, then_),
         Command::Generator {
             name,
             source,

@@ -6,6 +6,7 @@ mod diagrams;
 mod dropping;
 mod generators;
 mod lookups;
+mod maps;
 mod reading;
 mod session;
 mod stop;
@@ -13,4 +14,4 @@ mod storing;
 mod turning;
 
 pub use session::{NothingToRedo, NothingToUndo, Session};
-pub use workspace_lists::{Generator, Named, Stats, Workspace};
+pub use workspace_lists::{Generator, Named, NamedMap, Stats, Workspace};

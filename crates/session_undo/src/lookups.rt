@@ -1,9 +1,9 @@
-ghost use Rattle.std.specs.Prelude.{◌≡◌, IfOk, OnOk};
+ghost use Rattle.std.specs.Prelude.{◌≡◌, true, IfOk, OnOk};
 ghost use Rattle.diagram_terms.specs.Completion.{same_tree};
 ghost use Rattle.diagram_terms.specs.Typing.{IsWellTyped};
 ghost use Rattle.hashcons.specs.Contents.{IsDiagramOf, diagram_at};
 ghost use Rattle.session_state.specs.States.{IsState, Stays, present_of};
-ghost use Rattle.workspace_json.specs.Steps.{known, new_name, well_typed};
+ghost use Rattle.workspace_json.specs.Steps.{known, new_name, referred, well_typed};
 ghost use Rattle.workspace_json.specs.Workspaces.{generators_of};
 ghost use Rattle.session_undo.specs.Outcomes.{Answers};
 
@@ -42,6 +42,19 @@ pub(crate) fn find(state: &State, name: &Text) -> Result<DiagramId, Stop>
     Ok(d)
 }
 
+/// The diagram that a reference names.
+pub(crate) fn find_reference(state: &State, text: &Text) -> Result<DiagramId, Stop>
+    requires { IsState state.now }
+    ensures answer { Answers (diagram_at state.now.store) (referred (present_of state.now) text.now) result }
+    ensures of_store { IfOk result (λ d. IsDiagramOf state.now.store d) }
+{
+    let Some(d) = state.reference(text.as_str()) else {
+        let name = text.copy(state.store.allocator())?;
+        return Err(Stop::Refused(Refusal::Unknown { name }));
+    };
+    Ok(d)
+}
+
 /// Whether a diagram is well typed over the generators of the workspace.
 pub(crate) fn check(state: &mut State, d: DiagramId) -> Result<(), Stop>
     requires state { IsState state.old }
@@ -61,7 +74,8 @@ pub(crate) fn check(state: &mut State, d: DiagramId) -> Result<(), Stop>
 pub(crate) fn are_one(store: &Store, first: DiagramId, second: DiagramId) -> bool
     requires first { IsDiagramOf store.now first }
     requires second { IsDiagramOf store.now second }
-    ensures { result ≡ same_tree (diagram_at store.now first) (diagram_at store.now second) }
+    ensures trees { result ≡ same_tree (diagram_at store.now first) (diagram_at store.now second) }
+    ensures ids { result ≡ true → first ≡ second }
 {
     // The call says of the store that equal trees have equal ids.
     let _allocator = store.allocator();

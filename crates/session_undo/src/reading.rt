@@ -2,7 +2,7 @@ ghost use Rattle.session_state.specs.States.{IsState, present_of};
 ghost use Rattle.workspace_json.specs.Steps.{equal_answer, save_answer, slice_answer, stats_answer};
 ghost use Rattle.session_undo.specs.Outcomes.{Answers};
 
-use crate::lookups::{are_one, find};
+use crate::lookups::{are_one, find_reference};
 use crate::stop::Stop;
 use boundary_paths::slice;
 use diagram_terms::{Height, Text};
@@ -10,23 +10,23 @@ use session_state::State;
 use workspace_json::Reply;
 use workspace_lists::{document, printed, stats};
 
-/// The slice of a term along a path.
+/// The slice of a reference along a path.
 pub(crate) fn slice_command(state: &State, of: &Text, path: &[Height]) -> Result<Reply, Stop>
     requires { IsState state.now }
     ensures { Answers (λ reply. reply) (slice_answer (present_of state.now) of.now path.now) result }
 {
-    let d = find(state, of)?;
+    let d = find_reference(state, of)?;
     let found = slice(&state.store, d, path)?;
     Ok(printed(&state.store, found)?)
 }
 
-/// Whether two terms are one diagram.
+/// Whether two references are one diagram.
 pub(crate) fn equal_command(state: &State, one: &Text, two: &Text) -> Result<Reply, Stop>
     requires { IsState state.now }
     ensures { Answers (λ reply. reply) (equal_answer (present_of state.now) one.now two.now) result }
 {
-    let first = find(state, one)?;
-    let second = find(state, two)?;
+    let first = find_reference(state, one)?;
+    let second = find_reference(state, two)?;
     Ok(Reply::Equal {
         value: are_one(&state.store, first, second),
     })

@@ -42,10 +42,11 @@ impl Model for Session {
 impl Session {
     ghost use Rattle.std.specs.Prelude.{◌≡◌, Some, None, IfOk, OnErr, OnOk, MatchResult};
     ghost use Rattle.hashcons.specs.Contents.{Grows};
+    ghost use Rattle.workspace_json.specs.Forms.{HasForm};
     ghost use Rattle.workspace_json.specs.Saved.{stats_of};
     ghost use Rattle.workspace_json.specs.Sessions.{IsSession, new_session, redone, step, undone};
     ghost use Rattle.workspace_lists.specs.Held.{IsHeld, workspace_in};
-    ghost use Rattle.session_undo.specs.Equals.{equal_terms};
+    ghost use Rattle.session_undo.specs.Equals.{equal_references};
 
     /// An empty workspace with no past and no future. It takes no memory.
     pub fn new(alloc: Global) -> Session
@@ -75,6 +76,7 @@ impl Session {
     /// Does what a command says, and answers the reply to it. After a refusal, or where there is no
     /// memory, the workspace, the past and the future are as before.
     pub fn apply(&mut self, command: &Command) -> Result<Reply, AllocError>
+        requires { HasForm command.now }
         ensures step { IfOk result (λ reply.
             step self.old.session command.now ≡ record { reply = reply; session = self.new.session }) }
         ensures err { OnErr result (self.new.session ≡ self.old.session) }
@@ -120,12 +122,12 @@ impl Session {
         }
     }
 
-    /// Whether two terms name one diagram, and None where one of them names nothing. It takes no memory.
+    /// Whether two references name one diagram, and None where one of them names nothing. It takes no memory.
     pub fn equal(&self, one: &str, two: &str) -> Option<bool>
-        ensures { result ≡ equal_terms self.now.session.present one.now two.now }
+        ensures { result ≡ equal_references self.now.session.present one.now two.now }
     {
-        let first = self.state.term(one)?;
-        let second = self.state.term(two)?;
+        let first = self.state.reference(one)?;
+        let second = self.state.reference(two)?;
         Some(are_one(&self.state.store, first, second))
     }
 

@@ -15,7 +15,7 @@ use Rattle.diagram_terms.specs.Tree.{Tree, kind, label_at, from_at, to_at, regs,
 use Rattle.workspace_json.specs.declared.reply.Reply.TheVariants as reply
 use Rattle.workspace_json.specs.Saved.{is_diagram, stats_of, subtrees_of}
 use Rattle.workspace_json.specs.Workspaces.{Workspace, roots_of}
-use Rattle.workspace_lists.specs.Held.{diagram_over, generator_over, workspace_in}
+use Rattle.workspace_lists.specs.Held.{diagram_over, generator_over, map_over, workspace_in}
 use Rattle.workspace_lists.specs.Roots.{is_diagram_node, root_ids}
 use Rattle.workspace_lists.specs.declared.workspace.Workspace.{Workspace as Lists}
 use Rattle.workspace_lists.proofs.HeldRoots.{root_ids-trees}
@@ -78,21 +78,20 @@ module _ (W : Workspace) (nodes : List Node) (are : nodes ≡ subtree_nodes (roo
       omega arith
 
   stats-are : (n : ℕ) → n ≡ count_by is_diagram_node nodes
-      → stats_of W ≡ reply.Stats (length nodes - n) n (length W.generators) 0 (length W.diagrams)
+      → stats_of W ≡ reply.Stats (length nodes - n) n (length W.generators) (length W.maps) (length W.diagrams)
   stats-are n is = rw is (let here = diagrams-counted in let rest = arrows-counted in cc)
 
 -- the counts of the nodes under the roots of a workspace
-pub stats-over : (c : Contents) (w : Lists) (ids : List AnyId) (nodes : List Node) (n all generators named : ℕ)
+pub stats-over : (c : Contents) (w : Lists) (ids : List AnyId) (nodes : List Node) (n all generators maps named : ℕ)
     → ids ≡ root_ids w → nodes ≡ subtree_nodes (map (tree_of c) ids) → n ≡ count_by is_diagram_node nodes
-    → all ≡ length nodes → generators ≡ length w.generators.items → named ≡ length w.diagrams.items
-    → stats_of (workspace_in c w) ≡ reply.Stats (all - n) n generators 0 named
-stats-over c w ids nodes n all generators named roots are is every gs ds =
+    → all ≡ length nodes → generators ≡ length w.generators.items → maps ≡ length w.maps.items → named ≡ length w.diagrams.items
+    → stats_of (workspace_in c w) ≡ reply.Stats (all - n) n generators maps named
+stats-over c w ids nodes n all generators maps named roots are is every gs ms ds =
     let W = workspace_in c w in
     let shown : nodes ≡ subtree_nodes (roots_of W)
     = are ∙ ap (λ xs. subtree_nodes (map (tree_of c) xs)) roots ∙ ap subtree_nodes (root_ids-trees c w) in
     let first : length W.generators ≡ generators = length-map w.generators.items (generator_over c) ∙ sym gs in
     let second : length W.diagrams ≡ named = length-map w.diagrams.items (diagram_over c) ∙ sym ds in
+    let third : length W.maps ≡ maps = length-map w.maps.items (map_over c) ∙ sym ms in
     stats-are W nodes shown n is
-    ∙ ap (λ m. reply.Stats (m - n) n (length W.generators) 0 (length W.diagrams)) (sym every)
-    ∙ ap (λ g. reply.Stats (all - n) n g 0 (length W.diagrams)) first
-    ∙ ap (λ d. reply.Stats (all - n) n generators 0 d) second
+    ∙ (λ i. reply.Stats (sym every i - n) n (first i) (third i) (second i))

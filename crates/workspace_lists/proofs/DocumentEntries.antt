@@ -1,5 +1,5 @@
 -- The entries of a document, from the places of the roots.
-use Rattle.std.proofs.Common.{◌≡◌, ◌∙◌, ℕ, ◌+◌, ◌-◌, ◌<◌, ◌≤◌, List, [], ◌∷◌, ◌++◌, length, get_or, map, take, drop, Option, Some, None, refl, sym, ap, arith}
+use Rattle.std.proofs.Common.{◌≡◌, ◌∙◌, ℕ, ◌+◌, ◌<◌, ◌≤◌, List, [], ◌∷◌, ◌++◌, length, get_or, map, take, drop, Option, Some, None, refl, sym, ap, arith}
 use Rattle.std.proofs.lemmas.Simd.{map-map}
 use Rattle.std.proofs.lemmas.List.{append-nil, map-append, length-append, length-map, take_more, take_at, drop_at, map_more, get_or-map}
 use Rattle.std.proofs.lemmas.List.Concat.{flat_map-append, get_or-flat_map}
@@ -15,11 +15,12 @@ use Rattle.node_json.specs.declared.document.Document.{Document}
 use Rattle.node_json.specs.declared.document.GeneratorEntry.{GeneratorEntry}
 use Rattle.node_json.specs.declared.document.MapEntry.{MapEntry}
 use Rattle.typecheck.specs.Signatures.{generator_in}
-use Rattle.workspace_json.specs.Saved.{boundary_places, diagram_entry, document_of, generator_entry, subtrees_of}
-use Rattle.workspace_lists.specs.Held.{diagrams_over, generators_over, workspace_in}
-use Rattle.workspace_lists.specs.Roots.{boundary_ids, diagram_ids, end_ids, ends_at, ends_from, generator_at, named_at, root_ids}
+use Rattle.workspace_json.specs.Saved.{boundary_places, diagram_entry, document_of, generator_entry, map_entry, subtrees_of}
+use Rattle.workspace_lists.specs.Held.{diagrams_over, generators_over, maps_over, workspace_in}
+use Rattle.workspace_lists.specs.Roots.{boundary_ids, diagram_ids, end_ids, ends_at, ends_from, generator_at, map_entry_at, named_at, part_ids, root_ids, top_ids}
 use Rattle.workspace_lists.specs.declared.workspace.Generator.{Generator}
 use Rattle.workspace_lists.specs.declared.workspace.Named.{Named}
+use Rattle.workspace_lists.specs.declared.workspace.NamedMap.{NamedMap}
 use Rattle.workspace_lists.specs.declared.workspace.Workspace.{Workspace}
 use Rattle.workspace_lists.proofs.HeldRoots.{root_ids-trees}
 
@@ -122,47 +123,72 @@ module _ (c : Contents) (w : Workspace) where
   abbrev pub place_over : AnyId → ℕ
   place_over x = place_in (subtrees_of (workspace_in c w)) (tree_of c x)
 
+  -- the places of the three kinds of roots
+  abbrev end_places : List ℕ
+  end_places = map place_over (end_ids w.generators.items)
+
+  abbrev diagram_places : List ℕ
+  diagram_places = map place_over (diagram_ids w.diagrams.items)
+
+  abbrev part_places : List ℕ
+  part_places = map place_over (part_ids w.maps.items)
+
+  diagrams_count : length diagram_places ≡ length w.diagrams.items
+  diagrams_count = length-map (diagram_ids w.diagrams.items) place_over ∙ length-map w.diagrams.items (λ (d : Named). id.Diagram d.root)
+
   module _ (ids : List AnyId) (places : List ℕ) (roots : ids ≡ root_ids w)
-      (are : places ≡ root_places (map (tree_of c) ids)) where
-    places_over : places ≡ map place_over (end_ids w.generators.items) ++ map place_over (diagram_ids w.diagrams.items)
+      (are : places ≡ root_places (map (tree_of c) ids)) (maps : ℕ) (at_maps : maps ≡ length (top_ids w)) where
+    places_over : places ≡ (end_places ++ diagram_places) ++ part_places
     places_over =
         are ∙ ap (λ xs. root_places (map (tree_of c) xs)) roots ∙ ap root_places (root_ids-trees c w)
         ∙ ap (map (place_in (subtrees_of (workspace_in c w)))) (sym (root_ids-trees c w))
         ∙ map-map (place_in (subtrees_of (workspace_in c w))) (tree_of c) (root_ids w)
-        ∙ map-append place_over (end_ids w.generators.items) (diagram_ids w.diagrams.items)
+        ∙ map-append place_over (top_ids w) (part_ids w.maps.items)
+        ∙ ap (λ ps. ps ++ part_places) (map-append place_over (end_ids w.generators.items) (diagram_ids w.diagrams.items))
 
-    tops_count : length (map place_over (diagram_ids w.diagrams.items)) ≡ length w.diagrams.items
-    tops_count = length-map (diagram_ids w.diagrams.items) place_over ∙ length-map w.diagrams.items (λ (d : Named). id.Diagram d.root)
+    front_length : length (end_places ++ diagram_places) ≡ maps
+    front_length =
+        ap length (sym (map-append place_over (end_ids w.generators.items) (diagram_ids w.diagrams.items)))
+        ∙ length-map (top_ids w) place_over ∙ sym at_maps
 
-    all_count : length places ≡ length (map place_over (end_ids w.generators.items)) + length w.diagrams.items
-    all_count =
+    pub maps-within : maps ≤ length places
+    maps-within =
         let all = ap length places_over in
-        let sum = length-append (map place_over (end_ids w.generators.items)) (map place_over (diagram_ids w.diagrams.items)) in
-        let tops = tops_count in
+        let sum = length-append (end_places ++ diagram_places) part_places in
+        let front = front_length in
         omega arith
 
-    pub enough-places : length w.diagrams.items ≤ length places
-    enough-places = let all = all_count in omega arith
+    pub parts-places : (parts : List ℕ) → parts ≡ drop maps places → parts ≡ part_places
+    parts-places parts back = back ∙ ap (drop maps) places_over ∙ drop_at (end_places ++ diagram_places) part_places maps front_length
 
-    module _ (at : ℕ) (ends tops : List ℕ) (split : at ≡ length places - length w.diagrams.items) where
-      split_place : length (map place_over (end_ids w.generators.items)) ≡ at
-      split_place = let all = all_count in omega arith
+    pub parts-length : (parts : List ℕ) → parts ≡ drop maps places → length parts ≡ length (part_ids w.maps.items)
+    parts-length parts back = ap length (parts-places parts back) ∙ length-map (part_ids w.maps.items) place_over
 
-      pub ends-places : ends ≡ take at places → ends ≡ map place_over (end_ids w.generators.items)
-      ends-places front =
-          front ∙ ap (take at) places_over
-          ∙ take_at (map place_over (end_ids w.generators.items)) (map place_over (diagram_ids w.diagrams.items)) at split_place
+    module _ (front : List ℕ) (cut : front ≡ take maps places) (diagrams : ℕ) (at_diagrams : diagrams ≡ length (end_ids w.generators.items)) where
+      front_is : front ≡ end_places ++ diagram_places
+      front_is = cut ∙ ap (take maps) places_over ∙ take_at (end_places ++ diagram_places) part_places maps front_length
 
-      pub tops-places : tops ≡ drop at places → tops ≡ map place_over (diagram_ids w.diagrams.items)
-      tops-places back =
-          back ∙ ap (drop at) places_over
-          ∙ drop_at (map place_over (end_ids w.generators.items)) (map place_over (diagram_ids w.diagrams.items)) at split_place
+      ends_length : length end_places ≡ diagrams
+      ends_length = length-map (end_ids w.generators.items) place_over ∙ sym at_diagrams
 
-      pub ends-length : ends ≡ take at places → length ends ≡ length (end_ids w.generators.items)
-      ends-length front = ap length (ends-places front) ∙ length-map (end_ids w.generators.items) place_over
+      pub diagrams-within : diagrams ≤ length front
+      diagrams-within =
+          let all = ap length front_is in
+          let sum = length-append end_places diagram_places in
+          let ends = ends_length in
+          omega arith
 
-      pub tops-length : tops ≡ drop at places → length tops ≡ length w.diagrams.items
-      tops-length back = ap length (tops-places back) ∙ tops_count
+      pub ends-places : (ends : List ℕ) → ends ≡ take diagrams front → ends ≡ end_places
+      ends-places ends first = first ∙ ap (take diagrams) front_is ∙ take_at end_places diagram_places diagrams ends_length
+
+      pub tops-places : (tops : List ℕ) → tops ≡ drop diagrams front → tops ≡ diagram_places
+      tops-places tops last = last ∙ ap (drop diagrams) front_is ∙ drop_at end_places diagram_places diagrams ends_length
+
+      pub ends-length : (ends : List ℕ) → ends ≡ take diagrams front → length ends ≡ length (end_ids w.generators.items)
+      ends-length ends first = ap length (ends-places ends first) ∙ length-map (end_ids w.generators.items) place_over
+
+      pub tops-length : (tops : List ℕ) → tops ≡ drop diagrams front → length tops ≡ length w.diagrams.items
+      tops-length tops last = ap length (tops-places tops last) ∙ diagrams_count
 
   ends_over : (b : Option (ℕ × ℕ)) → ends_at place_over b ≡ boundary_places (subtrees_of (workspace_in c w)) (generator_in c b)
   ends_over None = refl
@@ -178,22 +204,28 @@ module _ (c : Contents) (w : Workspace) where
   named_are [] = refl
   named_are (d ∷ ds) = ap (λ es. named_at place_over d ∷ es) (named_are ds)
 
-  -- the document of these parts, where gs and ds are the lists of the workspace
-  pub document-over : (ids : List AnyId) (nodes : List Node) (ends tops : List ℕ) (gs : List Generator) (ds : List Named)
+  maps_are : (ms : List NamedMap)
+      → map (map_entry_at place_over) ms ≡ map (map_entry (subtrees_of (workspace_in c w))) (maps_over c ms)
+  maps_are [] = refl
+  maps_are (m ∷ ms) = ap (λ es. map_entry_at place_over m ∷ es) (maps_are ms)
+
+  -- the document of these parts, where gs, ds and ms are the lists of the workspace
+  pub document-over : (ids : List AnyId) (nodes : List Node) (ends tops parts : List ℕ) (gs : List Generator) (ds : List Named) (ms : List NamedMap)
       (generators : List GeneratorEntry) (named : List DiagramEntry) (maps : List MapEntry)
       → ids ≡ root_ids w → nodes ≡ subtree_nodes (map (tree_of c) ids)
-      → gs ≡ w.generators.items → ds ≡ w.diagrams.items
-      → ends ≡ map place_over (end_ids w.generators.items) → tops ≡ map place_over (diagram_ids w.diagrams.items)
+      → gs ≡ w.generators.items → ds ≡ w.diagrams.items → ms ≡ w.maps.items
+      → ends ≡ end_places → tops ≡ diagram_places → parts ≡ part_places
       → ((place : AnyId → ℕ) → ends ≡ map place (end_ids gs) → generators ≡ map (generator_at place) gs)
       → ((place : AnyId → ℕ) → tops ≡ map place (diagram_ids ds) → named ≡ map (named_at place) ds)
-      → maps ≡ []
+      → ((place : AnyId → ℕ) → parts ≡ map place (part_ids ms) → maps ≡ map (map_entry_at place) ms)
       → let D : Document = record { generators = generators; diagrams = named; maps = maps; nodes = nodes } in D ≡ document_of (workspace_in c w)
-  document-over ids nodes ends tops gs ds generators named maps roots shown gs_are ds_are front back first second none =
+  document-over ids nodes ends tops parts gs ds ms generators named maps roots shown gs_are ds_are ms_are front back last first second third =
       rw (
         first place_over (front ∙ ap (λ xs. map place_over (end_ids xs)) (sym gs_are)) ∙ ap (map (generator_at place_over)) gs_are
             ∙ generators_are w.generators.items,
         second place_over (back ∙ ap (λ xs. map place_over (diagram_ids xs)) (sym ds_are)) ∙ ap (map (named_at place_over)) ds_are
             ∙ named_are w.diagrams.items,
-        none,
+        third place_over (last ∙ ap (λ xs. map place_over (part_ids xs)) (sym ms_are)) ∙ ap (map (map_entry_at place_over)) ms_are
+            ∙ maps_are w.maps.items,
         shown ∙ ap (λ xs. subtree_nodes (map (tree_of c) xs)) roots ∙ ap subtree_nodes (root_ids-trees c w),
       ) refl

@@ -1,22 +1,24 @@
--- For callers: a workspace over a store that grew, and with one generator or diagram more.
-use Rattle.std.proofs.Common.{◌≡◌, ◌∙◌, ℕ, ◌<◌, List, [], ◌∷◌, ◌++◌, length, slice_get, Option, Some, None, refl, sym, ap, subst, arith}
+-- For callers: a workspace over a store that grew, and ids of a store.
+use Rattle.std.proofs.Common.{◌≡◌, ◌∙◌, ℕ, ◌<◌, List, [], ◌∷◌, length, slice_get, Some, refl, sym, ap, subst, arith}
 use Rattle.std.proofs.lemmas.Option.{get_or_from_slice_get, slice_get_within}
-use Rattle.std.proofs.lemmas.List.Elements.{All-head, All-tail, All-weaker, All-push, All-same}
+use Rattle.std.proofs.lemmas.List.Elements.{All-head, All-tail, All-weaker}
 use Rattle.std.specs.List.{All}
 use Rattle.diagram_terms.specs.Tree.{Tree}
 use Rattle.diagram_terms.specs.Typing.{generator_dim}
 use Rattle.hashcons.specs.declared.id.AnyId.{AnyId}
 use Rattle.hashcons.specs.declared.id.AnyId.TheVariants as id
-use Rattle.hashcons.specs.Contents.{Contents, Grows, IsDiagramOf, diagram_at}
+use Rattle.hashcons.specs.Contents.{Contents, Grows, IsDiagramOf}
 use Rattle.hashcons.specs.Ids.{GathersIds, IsOf}
 use Rattle.hashcons.specs.Listing.{AreOf}
 use Rattle.typecheck.proofs.GoodSignatures.{boundary-kept, generator-kept}
+use Rattle.workspace_json.specs.Maps.{NamedMap as NamedTrees}
 use Rattle.workspace_json.specs.Workspaces.{NamedDiagram, NamedGenerator}
 use Rattle.workspace_json.specs.Workspaces as trees
-use Rattle.workspace_lists.specs.Held.{AreHeld, IsGeneratorOf, IsHeld, Lists, diagrams_over, generators_over, trees_in}
+use Rattle.workspace_lists.specs.Held.{AreHeld, IsGeneratorOf, IsMapOf, Lists, diagrams_over, generators_over, maps_over, trees_in}
 use Rattle.workspace_lists.specs.declared.workspace.Generator.{Generator}
 use Rattle.workspace_lists.specs.declared.workspace.Named.{Named}
-use Rattle.workspace_lists.specs.declared.workspace.Workspace.{Workspace}
+use Rattle.workspace_lists.specs.declared.workspace.NamedMap.{NamedMap}
+use Rattle.zigzag_maps.specs.declared.map.Map.{Map}
 
 -- ---- a store that grew
 
@@ -27,10 +29,14 @@ module _ (old new : Contents) (g : Grows old new) where
     dim = h.dim ∙ ap generator_dim (sym (generator-kept old new e.boundary g h.of_store));
   }
 
+  pub map_of-kept : (m : Map) → IsMapOf old m → IsMapOf new m
+  map_of-kept m h = record { source = g.diagrams m.source h.source; target = g.diagrams m.target h.target; arrow = g.arrows m.arrow h.arrow }
+
   pub held-kept : (l : Lists) → AreHeld old l → AreHeld new l
   held-kept l h = record {
     generators = All-weaker (IsGeneratorOf old) (IsGeneratorOf new) generator_of-kept l.generators h.generators;
     diagrams = All-weaker (λ (d : Named). IsDiagramOf old d.root) (λ (d : Named). IsDiagramOf new d.root) (λ d k. g.diagrams d.root k) l.diagrams h.diagrams;
+    maps = All-weaker (λ (m : NamedMap). IsMapOf old m.map) (λ (m : NamedMap). IsMapOf new m.map) (λ m k. map_of-kept m.map k) l.maps h.maps;
   }
 
   generators_over-kept : (gs : List Generator) → All (IsGeneratorOf old) gs → generators_over new gs ≡ generators_over old gs
@@ -47,31 +53,23 @@ module _ (old new : Contents) (g : Grows old new) where
       let more = diagrams_over-kept ds (All-tail (λ (e : Named). IsDiagramOf old e.root) d ds all) in
       λ i. let x : NamedDiagram = record { name = d.name; tree = here i } in x ∷ more i
 
+  maps_over-kept : (ms : List NamedMap) → All (λ (m : NamedMap). IsMapOf old m.map) ms → maps_over new ms ≡ maps_over old ms
+  maps_over-kept [] all = refl
+  maps_over-kept (m ∷ ms) all =
+      let of = All-head (λ (n : NamedMap). IsMapOf old n.map) m ms all in
+      let source = g.diagram_trees m.map.source of.source in
+      let target = g.diagram_trees m.map.target of.target in
+      let arrow = g.arrow_trees m.map.arrow of.arrow in
+      let more = maps_over-kept ms (All-tail (λ (n : NamedMap). IsMapOf old n.map) m ms all) in
+      λ i. let x : NamedTrees = record { name = m.name; source = source i; target = target i; arrow = arrow i } in x ∷ more i
+
   -- the trees are the same
   pub trees-kept : (l : Lists) → AreHeld old l → trees_in new l ≡ trees_in old l
   trees-kept l h =
       let first = generators_over-kept l.generators h.generators in
       let second = diagrams_over-kept l.diagrams h.diagrams in
-      λ i. let w : trees.Workspace = record { generators = first i; diagrams = second i } in w
-
--- ---- one more
-
-module _ (c : Contents) (old new : Workspace) (h : IsHeld c old) where
-  pub held-generator_more : (e : Generator) → IsGeneratorOf c e → new.generators.items ≡ old.generators.items ++ e ∷ []
-      → new.diagrams.items ≡ old.diagrams.items → IsHeld c new
-  held-generator_more e of gs ds = record {
-    generators = All-same (IsGeneratorOf c) new.generators.items (old.generators.items ++ e ∷ []) gs
-        (All-push (IsGeneratorOf c) old.generators.items e h.generators of);
-    diagrams = All-same (λ (d : Named). IsDiagramOf c d.root) new.diagrams.items old.diagrams.items ds h.diagrams;
-  }
-
-  pub held-diagram_more : (e : Named) → IsDiagramOf c e.root → new.generators.items ≡ old.generators.items
-      → new.diagrams.items ≡ old.diagrams.items ++ e ∷ [] → IsHeld c new
-  held-diagram_more e of gs ds = record {
-    generators = All-same (IsGeneratorOf c) new.generators.items old.generators.items gs h.generators;
-    diagrams = All-same (λ (d : Named). IsDiagramOf c d.root) new.diagrams.items (old.diagrams.items ++ e ∷ []) ds
-        (All-push (λ (d : Named). IsDiagramOf c d.root) old.diagrams.items e h.diagrams of);
-  }
+      let third = maps_over-kept l.maps h.maps in
+      λ i. let w : trees.Workspace = record { generators = first i; diagrams = second i; maps = third i } in w
 
 -- ---- ids of a store
 

@@ -2,3 +2,4 @@ pub mod CountedNodes
 pub mod DocumentEntries
 pub mod ForCallers
 pub mod HeldRoots
+pub mod MapEntries

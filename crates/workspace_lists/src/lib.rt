@@ -1,4 +1,4 @@
-//! Workspaces over a store: their generators and diagrams, what their names stand for, and their
+//! Workspaces over a store: their generators, diagrams and maps, what their names stand for, and their
 //! documents and counts.
 #![tactic(auto)]
 
@@ -12,4 +12,4 @@ pub use counts::Stats;
 pub use names::{Meaning, Names};
 pub use printing::printed;
 pub use saved::{document, stats};
-pub use workspace::{Generator, Named, Workspace};
+pub use workspace::{Generator, Named, NamedMap, Workspace};

@@ -1,6 +1,7 @@
 use hashcons::DiagramId;
 use std::alloc::{AllocError, Global};
 use std::collections::HashMap;
+use zigzag_maps::Map;
 
 /// What a name stands for in a workspace.
 #[derive(Clone, Copy, Debug, PartialEq, Eq)]
@@ -11,6 +12,8 @@ pub enum Meaning {
     Generator(DiagramId),
     /// A stored diagram.
     Diagram(DiagramId),
+    /// A stored map.
+    Map(Map),
 }
 
 /// What each name stands for. A name that was ever given keeps its place in the table, so that undo

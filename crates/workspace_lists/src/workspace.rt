@@ -1,5 +1,6 @@
 use diagram_terms::Text;
 use hashcons::DiagramId;
+use zigzag_maps::Map;
 
 /// A generator: its name, its dimension, and its source and target, if it has a boundary.
 #[derive(Debug, Drop)]
@@ -16,8 +17,15 @@ pub struct Named {
     pub root: DiagramId,
 }
 
-/// The generators and the stored diagrams of a session, in the order in which they came. Its ids are
-/// those of the session's store.
+/// A stored map under its name.
+#[derive(Debug, Drop)]
+pub struct NamedMap {
+    pub name: Text,
+    pub map: Map,
+}
+
+/// The generators, the stored diagrams and the stored maps of a session, each in the order in which they
+/// came. Its ids are those of the session's store.
 ///
 /// The lists are plain vectors, since a session keeps room in them to undo and redo without memory.
 #[derive(Debug, Drop)]
@@ -25,4 +33,5 @@ pub struct Workspace {
     /// The generator at place i has the number i.
     pub generators: Vec<Generator>,
     pub diagrams: Vec<Named>,
+    pub maps: Vec<NamedMap>,
 }

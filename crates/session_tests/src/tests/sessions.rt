@@ -6,7 +6,7 @@ use workspace_json::{FormFault, read_command, reply_text};
 use workspace_lists::Stats;
 
 /// A command, and the reply to it.
-type Step = (&'static str, &'static str);
+pub(crate) type Step = (&'static str, &'static str);
 
 /// Point x, loop f of x, the identity of f, the end of f, two cells between loops, and refusals in between.
 const CHANGES: [Step; 14] = [
@@ -66,7 +66,7 @@ const CHANGES: [Step; 14] = [
 ];
 
 /// Whether the session answers a command with this reply.
-fn is_answered(
+pub(crate) fn is_answered(
     alloc: Global,
     session: &mut Session,
     command: &str,

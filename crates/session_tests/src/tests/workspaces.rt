@@ -89,6 +89,7 @@ fn sample(alloc: Global, store: &Store, x: DiagramId, d: DiagramId) -> Result<Wo
     Ok(Workspace {
         generators,
         diagrams,
+        maps: Vec::new(alloc),
     })
 }
 

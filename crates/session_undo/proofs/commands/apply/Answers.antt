@@ -1,8 +1,22 @@
-use Rattle.std.proofs.Common.{sym}
+use Rattle.std.proofs.Common.{sym, subst, List}
+use Rattle.diagram_terms.specs.declared.node.Node.{Node}
+use Rattle.workspace_json.specs.Forms.{HasForm, IsBrought}
 use Rattle.workspace_json.specs.Sessions.{step}
 use Rattle.session_state.specs.States.{session_of}
 use Rattle.session_undo.proofs.TestedCommands.{read_comes}
 use Rattle.session_undo.proofs.commands.apply.Goals as goal
+
+pub bring_command-requires-clause-brought : goal.bring_command-requires-clause-brought
+bring_command-requires-clause-brought c =
+    subst (λ (ns : List Node). IsBrought ns c.in-Bring.source c.in-Bring.target c.in-Bring.arrow) (sym c.as_slice.ensures) (subst HasForm c.in-Bring.is c.requires.form)
+
+pub returns-in-Bring-clause-comes : goal.returns-in-Bring-clause-comes
+unfolding step
+returns-in-Bring-clause-comes c = rw (c.in-Bring.is, sym c.as_slice.ensures) (c.bring_command.ensures.comes)
+
+pub returns-in-Compose-clause-comes : goal.returns-in-Compose-clause-comes
+unfolding step
+returns-in-Compose-clause-comes c = rw (c.in-Compose.is) (c.compose_command.ensures.comes)
 
 pub returns-in-Generator-clause-comes : goal.returns-in-Generator-clause-comes
 unfolding step
@@ -22,7 +36,7 @@ returns-in-Drop-clause-comes c = rw (c.in-Drop.is) (c.drop_command.ensures.comes
 
 pub returns-in-Slice-clause-comes : goal.returns-in-Slice-clause-comes
 unfolding step
-returns-in-Slice-clause-comes c = rw (c.in-Slice.is, sym c.as_slice.ensures) (read_comes (session_of c.args.state.now) _ c.slice_command.result c.slice_command.ensures)
+returns-in-Slice-clause-comes c = rw (c.in-Slice.is, sym c.as_slice-in-Slice.ensures) (read_comes (session_of c.args.state.now) _ c.slice_command.result c.slice_command.ensures)
 
 pub returns-in-Equal-clause-comes : goal.returns-in-Equal-clause-comes
 unfolding step

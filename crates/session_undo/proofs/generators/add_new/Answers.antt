@@ -15,7 +15,7 @@ use Rattle.session_state.specs.States.{lists_of, present_of, session_of}
 use Rattle.session_undo.proofs.StoredDiagrams.{accepted}
 use Rattle.session_undo.proofs.AddedGenerators.{can_put_generator, done_by_add, label_by_add, room_to_put_generator, stopped_after, stopped_by_add, with_generator_in}
 use Rattle.session_state.proofs.GrownSessions.{session-kept}
-use Rattle.session_undo.proofs.WorkspaceRules.{is_new}
+use Rattle.workspace_json.proofs.KeptRules.{is_new}
 use Rattle.session_state.proofs.StateGrowth.{grown_state, grown_stays, signature_good, signature_is}
 use Rattle.session_undo.proofs.generators.add_new.Goals as goal
 

@@ -1,6 +1,6 @@
 use Rattle.std.proofs.Common.{◌∙◌, Ok, sym, ap}
 use Rattle.std.proofs.lemmas.Result.{err_from_is_err_and}
-use Rattle.workspace_json.specs.Steps.{known}
+use Rattle.workspace_json.specs.Steps.{referred}
 use Rattle.hashcons.specs.Contents.{diagram_at}
 use Rattle.session_state.specs.States.{present_of}
 use Rattle.session_undo.proofs.TestedCommands.{slice_of, slice_unknown, stopped_answer}
@@ -10,7 +10,7 @@ pub returns-in_err-d : goal.returns-in_err-d
 returns-in_err-d c =
     let p = err_from_is_err_and c.from_residual.result c.from_residual.ensures.1 in
     let W = present_of c.args.state.now in
-    rw (p.1, p.2) (stopped_answer (known W c.args.of.now) _ c.in_err-d.field-0.0 c.in_err-d.ensures.answer (slice_unknown W c.args.of.now c.args.path.now))
+    rw (p.1, p.2) (stopped_answer (referred W c.args.of.now) _ c.in_err-d.field-0.0 c.in_err-d.ensures.answer (slice_unknown W c.args.of.now c.args.path.now))
 
 pub returns-in_err-found : goal.returns-in_err-found
 returns-in_err-found c =

@@ -9,7 +9,7 @@ use Rattle.workspace_lists.specs.declared.workspace.Named.{Named}
 use Rattle.workspace_lists.specs.Names.{knows}
 use Rattle.session_state.specs.States.{lists_of, present_of, session_of}
 use Rattle.session_undo.proofs.StoredDiagrams.{accepted, can_put_diagram, room_to_put_diagram, said_stored, stored_comes, with_diagram_in}
-use Rattle.session_undo.proofs.WorkspaceRules.{IsNew, is_new}
+use Rattle.workspace_json.proofs.KeptRules.{IsNew, is_new}
 use Rattle.session_undo.proofs.storing.store_diagram.Goals as goal
 
 pub accept-requires-clause-can : goal.accept-requires-clause-can

@@ -2,10 +2,11 @@ use Rattle.std.proofs.Common.{◌≡◌, ◌+◌, ◌∙◌, [], List, length, s
 use Rattle.std.proofs.lemmas.List.{length_push}
 use Rattle.session_state.specs.declared.edit.Edit.{Edit}
 use Rattle.workspace_lists.specs.Held.{Lists}
-use Rattle.session_state.specs.Edits.{diagrams_put, diagrams_put_by, generators_put}
+use Rattle.session_state.specs.Kinds.{of_diagrams, of_generators, of_maps, puts, total_put}
 use Rattle.session_state.specs.States.{IsHistory, entries_over, lists_of, session_over}
-use Rattle.session_state.proofs.Histories.{balanced, diagrams_put-push, session_anew, turned_anew}
-use Rattle.session_state.proofs.StateInvariant.{forth_length, room_for, told}
+use Rattle.session_state.proofs.Histories.{session_anew, turned_anew}
+use Rattle.session_state.proofs.OppositeEdits.{balanced, held_after, total_put-push}
+use Rattle.session_state.proofs.StateInvariant.{room_for, told}
 use Rattle.session_state.proofs.state.State.accept.Goals as goal
 
 pub make-back-requires : goal.make-back-requires
@@ -14,10 +15,11 @@ make-back-requires c =
     let room = c.requires.room in
     let e = c.args.edit in
     let l = lists_of c.args.self.now.entries in
-    let longer = forth_length l e can.forth in
+    let longer = held_after of_generators l e can.fits.within in
+    let forth = can.forth in
     record {
       within = can.fits.within;
-      room = room_for c.args.self.now.entries.workspace e (let r = room.generators in omega arith) (let r = room.diagrams in omega arith);
+      room = room_for c.args.self.now.entries.workspace e (let r = room.generators in omega arith) (let r = room.diagrams in omega arith) (let r = room.maps in omega arith);
       known_before = can.history.present.known;
       known_after = can.good.known;
     }
@@ -32,13 +34,17 @@ returns-clause-state c =
     let can = c.requires.can in
     let made = c.make-back.ensures.lists in
     let telling = told s.store s.entries c.make-back.new.self e i made (c.make-back.ensures.names s.store) can.names can.fits.type_of can.history.present can.good in
-    let balance = balanced l e i can.fits.within c.make-back.ensures.opposite in
+    let diagrams_stay = balanced of_diagrams l e i can.fits.within c.make-back.ensures.opposite in
+    let maps_stay = balanced of_maps l e i can.fits.within c.make-back.ensures.opposite in
     let lens' : length c.push_reserved.new.self.items ≡ length es + 1 = ap length c.push_reserved.ensures.items ∙ length_push es i in
-    let puts' : diagrams_put c.push_reserved.new.self.items ≡ diagrams_put es + diagrams_put_by i = ap diagrams_put c.push_reserved.ensures.items ∙ diagrams_put-push es i in
+    let diagrams_put : total_put of_diagrams c.push_reserved.new.self.items ≡ total_put of_diagrams es + puts of_diagrams i = ap (total_put of_diagrams) c.push_reserved.ensures.items ∙ total_put-push of_diagrams es i in
+    let maps_put : total_put of_maps c.push_reserved.new.self.items ≡ total_put of_maps es + puts of_maps i = ap (total_put of_maps) c.push_reserved.ensures.items ∙ total_put-push of_maps es i in
     let gens = ap (λ (m : Lists). length m.generators) made in
     let dias = ap (λ (m : Lists). length m.diagrams) made in
-    let none : generators_put c.clear.new.self.items ≡ 0 = ap generators_put c.clear.ensures.items in
-    let no_diagram : diagrams_put c.clear.new.self.items ≡ 0 = ap diagrams_put c.clear.ensures.items in
+    let maps = ap (λ (m : Lists). length m.maps) made in
+    let none : total_put of_generators c.clear.new.self.items ≡ 0 = ap (total_put of_generators) c.clear.ensures.items in
+    let no_diagram : total_put of_diagrams c.clear.new.self.items ≡ 0 = ap (total_put of_diagrams) c.clear.ensures.items in
+    let no_map : total_put of_maps c.clear.new.self.items ≡ 0 = ap (total_put of_maps) c.clear.ensures.items in
     let short : length c.clear.new.self.items ≡ 0 = ap length c.clear.ensures.items in
     let room = c.requires.room in
     record {
@@ -53,7 +59,8 @@ returns-clause-state c =
         past = let k = c.push_reserved.ensures.capacity in let r = room.past in omega arith;
         future = let k = c.clear.ensures.capacity in let r = room.future in omega arith;
         generators = let k = c.make-back.ensures.generators in let r = room.generators in omega arith;
-        diagrams = let k = c.make-back.ensures.diagrams in let r = room.diagrams in let b = balance.diagrams in omega arith;
+        diagrams = let k = c.make-back.ensures.diagrams in let r = room.diagrams in omega arith;
+        maps = let k = c.make-back.ensures.maps in let r = room.maps in omega arith;
         spare = omega arith;
       };
     }
