@@ -13,9 +13,7 @@ ghost use Rattle.degeneracy.specs.DegeneracyShapes.{HasDegenerateRegs, HasDegene
 use crate::degeneracy_kept::DegeneracyKept;
 use hashcons::{AnyId, ArrowId, Store};
 use std::alloc::{AllocError, Global};
-use zigzag_maps::{
-    Map, bwd_map, compose, dual_from, dual_of, fwd_map, reg_slice, sing_slice,
-};
+use zigzag_maps::{Map, bwd_map, compose, dual_from, dual_of, fwd_map, reg_slice, sing_slice};
 
 /// Whether a map is a degeneracy. Degeneracies compose and are mono (`degeneracies_compose` and
 /// `degeneracies_are_mono` of `degeneracy_laws`), and a map with an inverse is an identity

@@ -1,45 +1,14 @@
-ghost use Rattle.std.specs.Prelude.{◌≡◌, IfOk, OnOk, slice_get};
-ghost use Rattle.diagram_terms.specs.Nodes.{AreNodes};
+ghost use Rattle.std.specs.Prelude.{◌≡◌, IfOk, OnOk};
 ghost use Rattle.hashcons.specs.Contents.{Grows, IsArrowOf, IsDiagramOf};
 ghost use Rattle.zigzag_maps.specs.Found.{IsValidMap};
 ghost use Rattle.degeneracy.specs.DegeneracyTrees.{IsDegeneracyMap};
 
 use degeneracy::{factor, is_degeneracy, split};
-use hashcons::{AnyId, ArrowId, DiagramId, Store};
-use node_json::{Document, FormFault, read_document};
+use hashcons::{AnyId, Store};
 use std::alloc::Global;
 use std::test::Fail;
+use store_fixtures::{arrow_at, diagram_at, document_of};
 use zigzag_maps::{Map, SquareTest, squares, valid};
-
-/// The document with these nodes, and no entries.
-fn document_of(alloc: Global, nodes: &str) -> Result<Document, FormFault>
-    ensures { IfOk result (λ document. AreNodes document.nodes) }
-{
-    let text = format!(in alloc;
-        "{{\"diagrams\":[],\"format\":1,\"generators\":[],\"maps\":[],\"nodes\":[{nodes}]}}"
-    )?;
-    read_document(alloc, text.as_bytes())
-}
-
-/// The diagram whose id stands at a place.
-fn diagram_at(ids: &[AnyId], place: usize) -> Result<DiagramId, Fail>
-    ensures { IfOk result (λ d. slice_get ids.now place ≡ Some (AnyId.Diagram d)) }
-{
-    match ids.get(place) {
-        Some(AnyId::Diagram(d)) => Ok(*d),
-        _ => Err(Fail::from("no diagram stands there")),
-    }
-}
-
-/// The arrow whose id stands at a place.
-fn arrow_at(ids: &[AnyId], place: usize) -> Result<ArrowId, Fail>
-    ensures { IfOk result (λ a. slice_get ids.now place ≡ Some (AnyId.Arrow a)) }
-{
-    match ids.get(place) {
-        Some(AnyId::Arrow(a)) => Ok(*a),
-        _ => Err(Fail::from("no arrow stands there")),
-    }
-}
 
 /// The map at these places of the nodes of a document: its source, its target and its arrow.
 #[tactic(auto, using(hashcons::proofs::Growth::growth))]

@@ -22,17 +22,34 @@ fn kept_with_identity(alloc: Global, nodes: &str, place: usize) -> Result<Storag
     Ok(store.storage())
 }
 
-const LOOP: &str = r#"{"label":[0,0]},{"label":[1,1]},{"labels":[[0,0],[1,1]]},{"bwds":[2],"fwds":[2],"regs":[0,0],"sings":[1]}"#;
+const LOOP: &str =
+    r#"{"label":[0,0]},{"label":[1,1]},{"labels":[[0,0],[1,1]]},{"bwds":[2],"fwds":[2],"regs":[0,0],"sings":[1]}"#;
 
-const SIXTEEN: &str = r#"{"label":[0,0]},{"label":[1,1]},{"labels":[[0,0],[1,1]]},{"bwds":[2,2,2,2,2,2,2,2,2,2,2,2,2,2,2,2],"fwds":[2,2,2,2,2,2,2,2,2,2,2,2,2,2,2,2],"regs":[0,0,0,0,0,0,0,0,0,0,0,0,0,0,0,0,0],"sings":[1,1,1,1,1,1,1,1,1,1,1,1,1,1,1,1]}"#;
+const SIXTEEN: &str =
+    r#"{"label":[0,0]},{"label":[1,1]},{"labels":[[0,0],[1,1]]},{"bwds":[2,2,2,2,2,2,2,2,2,2,2,2,2,2,2,2],"fwds":[2,2,2,2,2,2,2,2,2,2,2,2,2,2,2,2],"regs":[0,0,0,0,0,0,0,0,0,0,0,0,0,0,0,0,0],"sings":[1,1,1,1,1,1,1,1,1,1,1,1,1,1,1,1]}"#;
 
 #[test]
 fn keeps_each_list_and_each_block_once(rt: HostRuntime) -> Result<(), Fail> {
     let alloc = rt.alloc();
     let diagrams = 3;
-    let one = Storage { diagrams, arrows: 1, lists: 3, blocks: 3 };
-    let two = Storage { diagrams, arrows: 4, lists: 6, blocks: 6 };
-    let long = Storage { diagrams, arrows: 1, lists: 3, blocks: 4 };
+    let one = Storage {
+        diagrams,
+        arrows: 1,
+        lists: 3,
+        blocks: 3,
+    };
+    let two = Storage {
+        diagrams,
+        arrows: 4,
+        lists: 6,
+        blocks: 6,
+    };
+    let long = Storage {
+        diagrams,
+        arrows: 1,
+        lists: 3,
+        blocks: 4,
+    };
     assert_eq!(rt; kept(alloc, LOOP)?, one);
     assert_eq!(rt; kept_with_identity(alloc, LOOP, 3)?, two);
     assert_eq!(rt; kept(alloc, SIXTEEN)?, long);
