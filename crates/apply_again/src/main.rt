@@ -3,6 +3,7 @@
 #![tactic(auto)]
 
 ghost use Rattle.std.specs.Prelude.{◌≡◌, IfOk, OnErr};
+ghost use Rattle.workspace_json.specs.Forms.{HasForm};
 ghost use Rattle.workspace_json.specs.Sessions.{step};
 
 use anyhow::{Result, anyhow, bail};
@@ -14,6 +15,7 @@ use workspace_json::{Command, Reply, read_command, reply_text};
 /// The usual reply to a command, and whether it had to be applied again, since at first there was no
 /// memory.
 fn reply_to(session: &mut Session, command: &Command) -> Result<(Reply, bool), AllocError>
+    requires { HasForm command.now }
     ensures step { IfOk result (λ answer.
         step session.old.session command.now ≡ record { reply = answer.0; session = session.new.session }) }
     ensures err { OnErr result (session.new.session ≡ session.old.session) }
