@@ -52,6 +52,12 @@ has_shape-returns-then-not-branch-2 t c =
     Decides-no _ _ _ _ (Grows-trans _ _ _ rs.grows ss.grows) ss.right
     (λ h. fails _ _ ss.decides c.if-not-branch-2.true (fact_after HasDegenerateSings _ _ c.args.f rs.grows v (shape.0 h).sings))
 
+pub has_shape-returns-in_err-sings_are_degeneracies : goal.has_shape-returns-in_err-sings_are_degeneracies
+has_shape-returns-in_err-sings_are_degeneracies t c =
+    let rs = c.in_ok-regs_are_degeneracies.ensures in
+    let ss = c.in_err-sings_are_degeneracies.ensures in
+    Decides-err _ _ _ _ _ (Grows-trans _ _ _ rs.grows ss.grows) ss.right c.from_residual-in_err-sings_are_degeneracies.ensures.0
+
 pub has_shape-missed_are_degeneracies-requires : goal.has_shape-missed_are_degeneracies-requires
 has_shape-missed_are_degeneracies-requires t c =
     let rs = c.in_ok-regs_are_degeneracies.ensures in
