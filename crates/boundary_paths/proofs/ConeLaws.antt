@@ -23,10 +23,10 @@ use Rattle.zigzag_maps.specs.Found.{IsValidDiagram}
 use Rattle.plain_maps.specs.Plainness.{IsPlainTree, IsPlainDiagramTree}
 use Rattle.plain_maps.specs.ValidPlain.{IsValidPlain, IsValidPlainMap}
 use Rattle.diagram_terms.specs.ValidTrees.{IsValidTreeAt, IsValidTree, IsArrowBetween}
-use Rattle.zigzag_maps.proofs.KeepLemmas.{valid_diagram-grows, between_same}
+use Rattle.zigzag_maps.proofs.KeptMaps.{valid_diagram-grows, between_same}
 use Rattle.boundary_paths.specs.Cones.{IsConeOf}
 use Rattle.diagram_terms.specs.ConeTrees.{cone_tree, mid_tree, type_tree, HasLabelsBelowTree}
-use Rattle.boundary_paths.proofs.ConeLemmas.{cone_tree_at, mid_tree_at, type_tree_at, cone_shape, mid_shape, type_shape, source_is, target_is}
+use Rattle.boundary_paths.proofs.ConesBySlices.{cone_tree_at, mid_tree_at, type_tree_at, cone_shape, mid_shape, type_shape, source_is, target_is}
 
 -- ---- a tree at the dimension of its shape
 

@@ -16,7 +16,7 @@ use Rattle.diagram_terms.proofs.NotionsOnTrees.{above}
 use Rattle.hashcons.specs.Contents.{Contents, Grows, IsDiagramOf, IsArrowOf, diagram_at, arrow_at}
 use Rattle.hashcons.specs.Gathers.{Gathers}
 use Rattle.hashcons.specs.Made.{MakesDiagram, MakesArrow, MakesArrows}
-use Rattle.hashcons.proofs.ContentsLemmas.{Grows-refl}
+use Rattle.hashcons.proofs.OneMoreTree.{Grows-refl}
 use Rattle.hashcons.proofs.Growth.{Grows-trans, store-kept, diagram-kept, arrow-kept, diagram_at-kept, arrow_at-kept, gathers-arrows_grow, gathers-picked}
 use Rattle.zigzag_maps.specs.declared.map.Map.{Map}
 use Rattle.zigzag_maps.specs.Found.{MakesMap}
@@ -24,7 +24,7 @@ use Rattle.zigzag_maps.specs.DiagramTests.{IsDiagramAt}
 use Rattle.zigzag_maps.proofs.ValiditySteps.{is_diagram_at-grows}
 use Rattle.boundary_paths.specs.declared.made.MadeCones.{MadeCones}
 use Rattle.boundary_paths.specs.Cones.{IsConeOf, MakesCone, AreCones}
-use Rattle.boundary_paths.proofs.ConeLemmas.{cone_tree-point, mid_tree-point, cone_tree-above, mid_tree-above, type_tree-is, type_shape, source_shape, target_shape}
+use Rattle.boundary_paths.proofs.ConesBySlices.{cone_tree-point, mid_tree-point, cone_tree-above, mid_tree-above, type_tree-is, type_shape, source_shape, target_shape}
 
 -- ---- a store that grew
 

@@ -2,9 +2,9 @@
 use Rattle.std.proofs.Common.{◌<◌, length, arith}
 use Rattle.diagram_terms.specs.Dimension.{dimension_of}
 use Rattle.diagram_terms.specs.Tree.{Tree, nil, num, pair, regs}
-use Rattle.hashcons.proofs.PickLemmas.{picks}
+use Rattle.hashcons.proofs.PartsOfNodes.{picks}
 use Rattle.diagram_terms.proofs.Dimensions.{diagram_dimensions}
-use Rattle.boundary_paths.proofs.SliceLemmas.{no_slice, regular_slice, no_regular_slice, singular_slice, no_singular_slice}
+use Rattle.boundary_paths.proofs.SlicesAtHeights.{no_slice, regular_slice, no_regular_slice, singular_slice, no_singular_slice}
 
 -- a tree above dimension 0 has a regular slice
 pub has_first : (t : Tree) → 0 < dimension_of t → 0 < length (regs t)

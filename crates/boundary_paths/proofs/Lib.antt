@@ -1,5 +1,5 @@
 pub mod ConeLaws
-pub mod ConeLemmas
+pub mod ConesBySlices
 pub mod ConeSteps
 pub mod Ends
-pub mod SliceLemmas
+pub mod SlicesAtHeights

@@ -1,9 +1,8 @@
 -- A label is a diagram of dimension 0 that is valid and plain.
-use Rattle.std.proofs.Common.{◌≡◌, ℕ, zero, ◌<◌, List, length, get_or, refl, sym, ◌∙◌, subst, arith}
-use Rattle.std.proofs.lemmas.Option.{slice_get-get_or, same_Some}
+use Rattle.std.proofs.Common.{◌≡◌, ℕ, zero, ◌<◌, refl, sym, subst}
 use Rattle.diagram_terms.specs.declared.label.Label.{Label}
 use Rattle.diagram_terms.specs.OnTrees.{on_diagram}
-use Rattle.diagram_terms.specs.Tree.{Tree, point, label_at-point}
+use Rattle.diagram_terms.specs.Tree.{point, label_at-point}
 use Rattle.diagram_terms.specs.Cone.{HasLabelsBelow}
 use Rattle.diagram_terms.specs.Decoded.{dia}
 use Rattle.diagram_terms.specs.Dimension.{dimension_of-point}
@@ -11,9 +10,6 @@ use Rattle.diagram_terms.specs.Plain.{Plain}
 use Rattle.diagram_terms.specs.Slices.{AreParallel}
 use Rattle.diagram_terms.proofs.NotionsOnTrees.{on_diagram_at}
 use Rattle.diagram_terms.proofs.Shapes.{IsDiagram-point}
-use Rattle.hashcons.specs.declared.id.AnyId.{AnyId}
-use Rattle.hashcons.specs.declared.id.AnyId.TheVariants as id
-use Rattle.hashcons.specs.Ids.{IsOf, GathersIds, id_at}
 use Rattle.hashcons.specs.Contents.{Contents, IsDiagramOf, diagram_at}
 use Rattle.zigzag_maps.specs.Found.{IsValidDiagram}
 use Rattle.plain_maps.specs.Plainness.{IsPlainDiagramTree}
@@ -50,15 +46,3 @@ module _ (c : Contents) (d : ℕ) (x : Label) (is : diagram_at c d ≡ point x) 
   parallel_label = record { dims = refl; sources = λ _. refl; targets = λ _. refl }
 
 pub ruleset points = (valid_label, plain_label, valid_plain_label, label_below, parallel_label)
-
--- an id of a diagram of the store, among ids that were put
-pub diagram_of_id : (c : Contents) (i : AnyId) (d : ℕ) → i ≡ id.Diagram d → IsOf c i → IsDiagramOf c d
-diagram_of_id c i d e l = subst (IsOf c) e l
-
--- an id that stands in the list is of the store
-pub held_id : (c : Contents) (ids : List AnyId) (n : ℕ) (f : ℕ → Tree) → GathersIds c ids n f → (place : ℕ) (x : AnyId)
-    → place < length ids → x ≡ get_or ids place x → IsOf c x
-held_id c ids n f held place x l is =
-    let e = held.len in
-    let same = sym (slice_get-get_or ids place (id.Diagram 0) l) ∙ slice_get-get_or ids place x l in
-    subst (IsOf c) (same_Some (id_at ids place) (get_or ids place x) same ∙ sym is) (held.of_store place (omega arith))

@@ -5,9 +5,9 @@ use Rattle.std.proofs.lemmas.Result.{IfOk-from_err}
 use Rattle.std.proofs.lemmas.Bool.{cases_lt}
 use Rattle.diagram_terms.specs.Dual.{IsIncreasing}
 use Rattle.hashcons.specs.Contents.{Contents, Grows, IsStore, IsDiagramOf, diagram_at}
-use Rattle.hashcons.proofs.ContentsLemmas.{Grows-refl}
+use Rattle.hashcons.proofs.OneMoreTree.{Grows-refl}
 use Rattle.hashcons.proofs.Growth.{Grows-trans, store-kept, diagram-kept, arrow-kept, diagram_at-kept, arrow_at-kept}
-use Rattle.zigzag_maps.proofs.KeepLemmas.{valid_map-grows, valid_diagram-grows, between_same}
+use Rattle.zigzag_maps.proofs.KeptMaps.{valid_map-grows, valid_diagram-grows, between_same}
 use Rattle.degeneracy.specs.declared.degeneracy_kept.DegeneracyKept.{DegeneracyKept}
 use Rattle.degeneracy.specs.DegeneracyKeeps.{AreDegeneracies, Decides}
 use Rattle.degeneracy.proofs.FactorMaps.{degeneracy_map-grows}

@@ -15,7 +15,7 @@ use Rattle.degeneracy_laws.proofs.Shapes.{degeneracies_have_shape}
 use Rattle.degeneracy_laws.proofs.Splits.{shape_means_degeneracy}
 use Rattle.diagram_terms.specs.Operations.{composite_tree}
 use Rattle.diagram_terms.specs.ValidTrees.{IsValidTreeAt, AreComposableAt}
-use Rattle.zigzag_maps.proofs.CompositeLemmas.{composite_shape}
+use Rattle.zigzag_maps.proofs.CompositeSlices.{composite_shape}
 use Rattle.diagram_terms.proofs.NotionsOnTrees.{on_arrow_at}
 use Rattle.degeneracy.specs.DegeneracyTrees.{IsDegeneracyTree}
 use Rattle.zigzag_maps.specs.MapTrees.{IsValidArrowAt, IsValidArrowTree}

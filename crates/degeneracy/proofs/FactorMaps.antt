@@ -19,7 +19,7 @@ use Rattle.diagram_terms.proofs.NotionsOnTrees.{on_arrow_at}
 use Rattle.hashcons.specs.Contents.{Contents, Grows, diagram_at, arrow_at}
 use Rattle.zigzag_maps.specs.declared.map.Map.{Map}
 use Rattle.zigzag_maps.specs.Found.{IsValidMap}
-use Rattle.zigzag_maps.proofs.KeepLemmas.{valid_map-grows}
+use Rattle.zigzag_maps.proofs.KeptMaps.{valid_map-grows}
 use Rattle.degeneracy.specs.FoundFactors.{IsArrowWith}
 use Rattle.degeneracy.specs.DegeneracyTrees.{IsDegeneracyTree, IsDegeneracyMap, IsFactorTree, IsFactorArrow, IsFactorMap}
 use Rattle.degeneracy.specs.FactorTrees.{factors_tree, factor_tree, AreIntoOneAt, AreIntoOne}

@@ -19,7 +19,7 @@ use Rattle.diagram_terms.proofs.Shapes.{IsArrow-ends, IsArrow-zag}
 use Rattle.diagram_terms.specs.Factors.{has_factor, factor_through, regular_over}
 use Rattle.normal_form_laws.proofs.Members.{all_in}
 use Rattle.diagram_terms.proofs.Injections.{contains_at}
-use Rattle.zigzag_maps.proofs.IdentityLemmas.{slices_tab}
+use Rattle.zigzag_maps.proofs.IdentitySlices.{slices_tab}
 use Rattle.degeneracy.specs.FactorTrees.{factors_tree, factor_tree, AreIntoOneAt, AreIntoOne, is_hit, are_hit, regs_factor, sings_factor, reg_factor, sing_factor, height_over}
 
 -- ---- at the dimension of the arrows

@@ -15,7 +15,7 @@ use Rattle.diagram_terms.proofs.Dimensions.{arrow_parts_of, dimension_of-arrow_r
 use Rattle.diagram_terms.proofs.Duals.{fibre_high, length-tab, get-tab}
 use Rattle.hashcons.specs.Contents.{Contents, Grows, IsStore, IsArrowOf, arrow_at}
 use Rattle.hashcons.specs.Gathers.{Gathers}
-use Rattle.hashcons.proofs.ContentsLemmas.{Grows-refl}
+use Rattle.hashcons.proofs.OneMoreTree.{Grows-refl}
 use Rattle.hashcons.proofs.Growth.{Grows-trans, store-kept, arrow-kept, arrow_at-kept, gathers-arrows_grow, gathers-picked, gathers-below}
 use Rattle.hashcons.specs.Nodes.{AreArrowChildren}
 use Rattle.degeneracy.specs.FoundFactors.{FoundIf, IsArrowWith}

@@ -1,10 +1,8 @@
 -- Equal keys are one key, and what is kept of factors stays right when the store grows.
-use Rattle.std.proofs.Common.{◌≡◌, ℕ, Bool, true, ◌&&◌, nat_eq, List, Some, sym, subst, ◌∙◌, inl, inr}
-use Rattle.std.proofs.lemmas.Bool.{and_parts, cases_Bool, cond-true, cond-false, eqb-true}
-use Rattle.std.proofs.lemmas.Option.{same_Some}
-use Rattle.std.specs.Map.{lookup}
+use Rattle.std.proofs.Common.{◌≡◌, ℕ, true, ◌&&◌, nat_eq, sym, ◌∙◌}
+use Rattle.std.proofs.lemmas.Bool.{and_parts, eqb-true}
 use Rattle.diagram_terms.specs.Tree.{Tree}
-use Rattle.hashcons.specs.Contents.{Contents, Grows, same_pair, NotesMore}
+use Rattle.hashcons.specs.Contents.{Contents, Grows, same_pair}
 use Rattle.degeneracy.specs.declared.factor_kept.FactorKept.{FactorKept}
 use Rattle.degeneracy.specs.FoundFactors.{IsArrowWith}
 use Rattle.degeneracy.specs.DegeneracyKeeps.{same_triple}
@@ -26,16 +24,6 @@ exact_pair x y h =
     let a = eqb-true x.0 y.0 p.0 in
     let b = eqb-true x.1 y.1 p.1 in
     λ i. (a i, b i)
-
--- a fact of each note, and of one more
-module _ {K X : Type 0} (eq : K → K → Bool) (exact : (x y : K) → eq x y ≡ true → x ≡ y) (old new : List (K × X)) (k : K) (v : X)
-    (more : NotesMore eq old new k v) where
-  pub notes-all : (P : K → X → Type 0) → ((q : K) (w : X) → lookup (eq q) old ≡ Some w → P q w) → P k v
-      → (q : K) (w : X) → lookup (eq q) new ≡ Some w → P q w
-  notes-all P all p q w e = elim (cases_Bool (eq k q)) [
-    | inl h ↦ subst (λ x. P x w) (exact k q h) (subst (P k) (same_Some v w (sym (cond-true (eq k q) (Some v) (lookup (eq q) old) h) ∙ sym (more q) ∙ e)) p)
-    | inr h ↦ all q w (sym (cond-false (eq k q) (Some v) (lookup (eq q) old) h) ∙ sym (more q) ∙ e)
-  ]
 
 pub arrow_with-grows : (old new : Contents) (t : Tree) (a : ℕ) → Grows old new → IsArrowWith old t a → IsArrowWith new t a
 arrow_with-grows old new t a g h = record { of_store = g.arrows a h.of_store; tree = g.arrow_trees a h.of_store ∙ h.tree }

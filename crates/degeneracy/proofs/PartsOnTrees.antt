@@ -19,8 +19,8 @@ use Rattle.diagram_terms.proofs.Shapes.{IsDiagram-zig, IsArrow-zag}
 use Rattle.degeneracy_laws.proofs.SplitParts.{at_hit-yes, at_hit-no, middle, simple_part, parallel_part, middle-regs_len, middle-sings_len, middle-fwds_len, middle-bwds_len, middle-reg, middle-sing, middle-fwd, middle-bwd, simple_part-heights, simple_part-regs_len, simple_part-sings_len, simple_part-reg, simple_part-sing, parallel_part-heights, parallel_part-regs, parallel_part-reg, parallel_part-sings_len, parallel_part-sing}
 use Rattle.degeneracy_laws.proofs.SplitParts as laws
 use Rattle.zigzag_maps.specs.MapTrees.{IsValidArrowAt, IsValidArrowTree}
-use Rattle.zigzag_maps.proofs.CompositeLemmas.{composite_shape}
-use Rattle.zigzag_maps.proofs.IdentityLemmas.{identity_shape}
+use Rattle.zigzag_maps.proofs.CompositeSlices.{composite_shape}
+use Rattle.zigzag_maps.proofs.IdentitySlices.{identity_shape}
 use Rattle.zigzag_maps.proofs.ValidArrows.{dual_in, regs_is, heights_is, sings_is}
 use Rattle.degeneracy.specs.DegeneracyTrees.{IsDegeneracyTree}
 use Rattle.degeneracy.specs.SplitTrees.{SplitsAt, SplitsTree, at_hit, middle_reg, middle_sing, middle_fwd, middle_bwd, simple_reg, parallel_sing, middle_tree, simple_tree, parallel_tree}

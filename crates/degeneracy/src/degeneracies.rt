@@ -13,9 +13,7 @@ ghost use Rattle.degeneracy.specs.DegeneracyShapes.{HasDegenerateRegs, HasDegene
 use crate::degeneracy_kept::DegeneracyKept;
 use hashcons::{AnyId, ArrowId, Store};
 use std::alloc::{AllocError, Global};
-use zigzag_maps::{
-    Map, bwd_map, compose, dual_from, dual_of, fwd_map, reg_slice, regs_len, sing_slice,
-};
+use zigzag_maps::{Map, bwd_map, compose, dual_from, dual_of, fwd_map, reg_slice, sing_slice};
 
 /// Whether a map is a degeneracy. Degeneracies compose and are mono (`degeneracies_compose` and
 /// `degeneracies_are_mono` of `degeneracy_laws`), and a map with an inverse is an identity
@@ -129,7 +127,7 @@ fn regs_are_degeneracies(
     ensures { Decides store.old store.new kept.new (HasDegenerateRegs (diagram_at store.old f.source)
         (diagram_at store.old f.target) (arrow_at store.old f.arrow)) result }
 {
-    for k in 0..regs_len(store, f.arrow) {
+    for k in 0..store.regs_len(f.arrow) {
         let slice = reg_slice(store, f, k);
         if !is_degeneracy_once(alloc, store, kept, dim - 1, slice)? {
             return Ok(false);

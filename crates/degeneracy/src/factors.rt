@@ -13,7 +13,7 @@ use crate::factor_kept::FactorKept;
 use hashcons::{AnyId, ArrowId, ArrowNode, Store};
 use smallvec::SmallVec;
 use std::alloc::{AllocError, Global};
-use zigzag_maps::{Map, dual_from, regs_len};
+use zigzag_maps::{Map, dual_from};
 
 /// The one map `g` after which `e` is `f`, and none exactly where there is none. That there is one at
 /// most is a law (`degeneracies_are_mono` of `degeneracy_laws`).
@@ -181,7 +181,7 @@ fn regular_factors(
         (length (regs (arrow_at store.old e))) (reg_factor (arrow_at store.old e) (arrow_at store.old f))) result }
 {
     let mut ids = SmallVec::new(alloc);
-    for k in 0..regs_len(store, e) {
+    for k in 0..store.regs_len(e) {
         let outer = store.arrow_reg(e, k);
         let inner = store.arrow_reg(f, k);
         let Some(found) = factor_once(alloc, store, kept, dim - 1, outer, inner)? else {

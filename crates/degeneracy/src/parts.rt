@@ -14,7 +14,7 @@ ghost use Rattle.degeneracy.specs.SplitTrees.{AreParts, middle_bwd, middle_fwd, 
 use hashcons::{ArrowId, ArrowNode, DiagramId, DiagramNode, Store};
 use smallvec::SmallVec;
 use std::alloc::{AllocError, Global};
-use zigzag_maps::{Map, compose, dual_of, fwd_map, identity, reg_slice, regs_len};
+use zigzag_maps::{Map, compose, dual_of, fwd_map, identity, reg_slice};
 
 /// The two parts of a degeneracy `d` above dimension 0: the simple one, and the parallel one, which
 /// follows it. Their composite is `d`, and no other two parts have this composite
@@ -57,7 +57,7 @@ fn regular_identities(
         (simple_reg (diagram_at store.old f.now.source) (arrow_at store.old f.now.arrow)) result }
 {
     let mut ids = SmallVec::new(alloc);
-    for k in 0..regs_len(store, f.arrow) {
+    for k in 0..store.regs_len(f.arrow) {
         let slice = reg_slice(store, *f, k);
         let made = identity(alloc, store, slice.source)?;
         ids.push(made.arrow)?;
@@ -101,7 +101,7 @@ fn middle_regs(alloc: Global, store: &Store, f: &Map) -> Result<SmallVec<Diagram
         (middle_reg (diagram_at store.now f.now.source) (arrow_at store.now f.now.arrow))) }
 {
     let mut ids = SmallVec::new(alloc);
-    for k in 0..regs_len(store, f.arrow) {
+    for k in 0..store.regs_len(f.arrow) {
         let slice = reg_slice(store, *f, k);
         ids.push(slice.source)?;
     }
@@ -294,7 +294,7 @@ fn parallel_part(alloc: Global, store: &mut Store, f: &Map) -> Result<ArrowId, A
 }
 
 /// The heights below `n`, in order.
-#[tactic(auto, using(zigzag_maps::proofs::IdentityLemmas::upto_more))]
+#[tactic(auto, using(zigzag_maps::proofs::IdentitySlices::upto_more))]
 fn heights_below(alloc: Global, n: usize) -> Result<SmallVec<usize, 4>, AllocError>
     ensures { IfOk result (λ heights. heights.items ≡ upto n) }
 {
@@ -312,7 +312,7 @@ fn regs_of(alloc: Global, store: &Store, a: ArrowId) -> Result<SmallVec<ArrowId,
         (reg_at (arrow_at store.now a))) }
 {
     let mut ids = SmallVec::new(alloc);
-    for k in 0..regs_len(store, a) {
+    for k in 0..store.regs_len(a) {
         ids.push(store.arrow_reg(a, k))?;
     }
     Ok(ids)

@@ -1,7 +1,8 @@
-use crate::stored::{factor_of, has_parts, has_unit_factor, map_of, maps_of};
+use crate::stored::{factor_of, map_of, parts_of};
 use degeneracy::is_degeneracy;
 use hashcons::Store;
 use std::test::Fail;
+use zigzag_maps::identity;
 
 /// x -> f <- x at place 3, T = x -> x <- x -> f <- x at place 7, and at place 6 the map from the
 /// first into T, to its second height. x -> x <- x at place 8, and at place 9 its map into T, to the
@@ -29,27 +30,35 @@ fn degeneracies_are_told(rt: HostRuntime) -> Result<(), Fail> {
 }
 
 #[test]
-fn factors_are_missed(rt: HostRuntime) -> Result<(), Fail> {
+#[tactic(auto, using(degeneracy::proofs::DegeneraciesInStore::degenerating))]
+fn factors_are_found(rt: HostRuntime) -> Result<(), Fail> {
     let mut store = Store::new(rt.alloc());
-    let (first, second) = maps_of(rt.alloc(), &mut store, NODES, FIRST, SECOND)?;
+    let first = map_of(rt.alloc(), &mut store, NODES, FIRST)?;
+    let second = map_of(rt.alloc(), &mut store, NODES, SECOND)?;
+    let unit = identity(rt.alloc(), &mut store, second.source)?;
+    assert_eq!(rt;
+        factor_of(rt.alloc(), &mut store, second, second)?,
+        Some(unit)
+    );
     assert_eq!(rt; factor_of(rt.alloc(), &mut store, first, second)?, None);
     Ok(())
 }
 
 #[test]
-fn degeneracies_have_unit_factors(rt: HostRuntime) -> Result<(), Fail> {
+#[tactic(auto, using(degeneracy::proofs::DegeneraciesInStore::degenerating))]
+fn parts_come_in_order(rt: HostRuntime) -> Result<(), Fail> {
     let mut store = Store::new(rt.alloc());
-    let map = map_of(rt.alloc(), &mut store, NODES, SECOND)?;
-    assert!(rt; has_unit_factor(rt.alloc(), &mut store, &map)?);
-    Ok(())
-}
-
-#[test]
-fn simple_parts_come_first(rt: HostRuntime) -> Result<(), Fail> {
-    for (places, is_simple) in [(SECOND, true), (ABOVE, false)] {
-        let mut store = Store::new(rt.alloc());
-        let map = map_of(rt.alloc(), &mut store, NODES, places)?;
-        assert!(rt; has_parts(rt.alloc(), &mut store, &map, is_simple)?);
-    }
+    let simple = map_of(rt.alloc(), &mut store, NODES, SECOND)?;
+    let of_target = identity(rt.alloc(), &mut store, simple.target)?;
+    assert_eq!(rt;
+        parts_of(rt.alloc(), &mut store, simple)?,
+        (simple, of_target)
+    );
+    let parallel = map_of(rt.alloc(), &mut store, NODES, ABOVE)?;
+    let of_source = identity(rt.alloc(), &mut store, parallel.source)?;
+    assert_eq!(rt;
+        parts_of(rt.alloc(), &mut store, parallel)?,
+        (of_source, parallel)
+    );
     Ok(())
 }

@@ -10,16 +10,16 @@ use Rattle.diagram_terms.specs.Nodes.{picked}
 use Rattle.diagram_terms.proofs.Completions.{children-point, children-ends, children-zig, children-zag}
 use Rattle.diagram_terms.proofs.Dimensions.{diagram_parts_of, arrow_parts_of}
 use Rattle.hashcons.specs.declared.id.AnyId.{AnyId}
-use Rattle.hashcons.specs.declared.node.ArrowNode.{ArrowNode}
-use Rattle.hashcons.specs.declared.node.ArrowNode.TheVariants as a
-use Rattle.hashcons.specs.declared.node.DiagramNode.{DiagramNode}
-use Rattle.hashcons.specs.declared.node.DiagramNode.TheVariants as d
+use Rattle.hashcons.specs.declared.view.ArrowView.{ArrowView}
+use Rattle.hashcons.specs.declared.view.ArrowView.TheVariants as a
+use Rattle.hashcons.specs.declared.view.DiagramView.{DiagramView}
+use Rattle.hashcons.specs.declared.view.DiagramView.TheVariants as d
 use Rattle.hashcons.specs.Contents.{Contents, IsStore, IsDiagramOf, IsArrowOf, diagram_at, arrow_at}
-use Rattle.hashcons.specs.Nodes.{described_arrow, described_diagram, HasArrowsOf, HasChildrenOf}
+use Rattle.hashcons.specs.Nodes.{tree_of_arrow, tree_of_diagram, IsArrowOver, IsDiagramOver}
 use Rattle.hashcons.specs.Listing.{IsListing, Visits, AreOfOneDimension, first_dimension}
-use Rattle.hashcons.proofs.TableLemmas.{length-picked, get_or-picked}
-use Rattle.hashcons.proofs.ViewLemmas.{first_slice, first_arrow}
-use Rattle.hashcons.proofs.ListLemmas.{visits-none, visits-append}
+use Rattle.hashcons.proofs.TableTrees.{length-picked, get_or-picked}
+use Rattle.hashcons.proofs.FirstSlices.{first_slice, first_arrow}
+use Rattle.hashcons.proofs.ListingGrows.{visits-none, visits-append}
 
 -- ids of which each has one dimension less than n
 pub record AreLower (ts : List Tree) (n : ℕ) (ids : List ℕ) : Type 0 where
@@ -53,31 +53,31 @@ pub record ArrowVisit (c : Contents) (i : ℕ) (rs ss : List ℕ) : Type 0 where
   pub all : flat_map completions (children (arrow_at c i))
       ≡ flat_map completions (picked c.arrows rs) ++ flat_map completions (picked c.arrows ss)
 
-pub arrow_visit : (c : Contents) (i : ℕ) (n : ArrowNode) (hs rs ss : _) → IsStore c → IsArrowOf c i
-    → described_arrow c n ≡ arrow_at c i → HasArrowsOf c n
-    → n ≡ a.Zig hs rs ss → ArrowVisit c i rs.items ss.items
+pub arrow_visit : (c : Contents) (i : ℕ) (n : ArrowView) (hs rs ss : _) → IsStore c → IsArrowOf c i
+    → tree_of_arrow c.arrows n ≡ arrow_at c i → IsArrowOver (length c.arrows) n
+    → n ≡ a.Zig hs rs ss → ArrowVisit c i rs ss
 arrow_visit c i n hs rs ss store of_store tree children_of e =
     let t = arrow_at c i in
-    let rt = picked c.arrows rs.items in
-    let st = picked c.arrows ss.items in
-    let over : HasArrowsOf c (a.Zig hs rs ss) = subst (HasArrowsOf c) e children_of in
-    let is : zag hs.items rt st ≡ t = sym (ap (described_arrow c) e) ∙ tree in
+    let rt = picked c.arrows rs in
+    let st = picked c.arrows ss in
+    let over : IsArrowOver (length c.arrows) (a.Zig hs rs ss) = subst (IsArrowOver (length c.arrows)) e children_of in
+    let is : zag hs rt st ≡ t = sym (ap (tree_of_arrow c.arrows) e) ∙ tree in
     let above = (first_arrow c i n hs rs ss store of_store tree children_of e).above in
     let parts = arrow_parts_of t (store.arrows i of_store) above in
     record {
-      regs = lower_parts c.arrows (dimension_of t) rs.items (regs t) (sym (ap regs is) ∙ regs-zag _ _ _) above over.regs
+      regs = lower_parts c.arrows (dimension_of t) rs (regs t) (sym (ap regs is) ∙ regs-zag _ _ _) above over.regs
           (λ j l. (parts.regs j l).1);
-      sings = lower_parts c.arrows (dimension_of t) ss.items (sings t) (sym (ap sings is) ∙ sings-zag _ _ _) above
+      sings = lower_parts c.arrows (dimension_of t) ss (sings t) (sym (ap sings is) ∙ sings-zag _ _ _) above
           over.sings (λ j l. (parts.sings j l).1);
-      all = ap (flat_map completions) (sym (ap children is) ∙ children-zag hs.items rt st) ∙ flat_map-append completions
+      all = ap (flat_map completions) (sym (ap children is) ∙ children-zag hs rt st) ∙ flat_map-append completions
           rt st;
     }
 
-pub labels_visit : (c : Contents) (i : ℕ) (n : ArrowNode) (x y : _) (ids : List AnyId) → described_arrow c n ≡ arrow_at c i
+pub labels_visit : (c : Contents) (i : ℕ) (n : ArrowView) (x y : _) (ids : List AnyId) → tree_of_arrow c.arrows n ≡ arrow_at c i
     → n ≡ a.Zero x y → IsListing c ids
     → Visits c ids ids (flat_map completions (children (arrow_at c i)))
 labels_visit c i n x y ids tree e h =
-    let none = sym (ap children (sym (ap (described_arrow c) e) ∙ tree)) ∙ children-ends x y in
+    let none = sym (ap children (sym (ap (tree_of_arrow c.arrows) e) ∙ tree)) ∙ children-ends x y in
     subst (λ ts. Visits c ids ids (flat_map completions ts)) (sym none) (visits-none c ids h)
 
 pub visits_slices : (c : Contents) (i : ℕ) (rs ss : List ℕ) → ArrowVisit c i rs ss → (old mid new : List AnyId)
@@ -97,40 +97,40 @@ pub record DiagramVisit (c : Contents) (i : ℕ) (rs ss fs bs : List ℕ) : Type
       ≡ flat_map completions (picked c.diagrams rs) ++ flat_map completions (picked c.diagrams ss) ++ flat_map
       completions (picked c.arrows fs) ++ flat_map completions (picked c.arrows bs)
 
-pub diagram_visit : (c : Contents) (i : ℕ) (n : DiagramNode) (rs ss fs bs : _) → IsStore c → IsDiagramOf c i
-    → described_diagram c n ≡ diagram_at c i → HasChildrenOf c n
-    → n ≡ d.Zig rs ss fs bs → DiagramVisit c i rs.items ss.items fs.items bs.items
+pub diagram_visit : (c : Contents) (i : ℕ) (n : DiagramView) (rs ss fs bs : _) → IsStore c → IsDiagramOf c i
+    → tree_of_diagram c.arrows c.diagrams n ≡ diagram_at c i → IsDiagramOver (length c.arrows) (length c.diagrams) n
+    → n ≡ d.Zig rs ss fs bs → DiagramVisit c i rs ss fs bs
 diagram_visit c i n rs ss fs bs store of_store tree children_of e =
     let t = diagram_at c i in
-    let rt = picked c.diagrams rs.items in
-    let st = picked c.diagrams ss.items in
-    let ft = picked c.arrows fs.items in
-    let bt = picked c.arrows bs.items in
-    let over : HasChildrenOf c (d.Zig rs ss fs bs) = subst (HasChildrenOf c) e children_of in
-    let is : zig rt st ft bt ≡ t = sym (ap (described_diagram c) e) ∙ tree in
+    let rt = picked c.diagrams rs in
+    let st = picked c.diagrams ss in
+    let ft = picked c.arrows fs in
+    let bt = picked c.arrows bs in
+    let over : IsDiagramOver (length c.arrows) (length c.diagrams) (d.Zig rs ss fs bs) = subst (IsDiagramOver (length c.arrows) (length c.diagrams)) e children_of in
+    let is : zig rt st ft bt ≡ t = sym (ap (tree_of_diagram c.arrows c.diagrams) e) ∙ tree in
     let above = (first_slice c i n rs ss fs bs store of_store tree children_of e).above in
     let parts = diagram_parts_of t (store.diagrams i of_store) above in
     let n = dimension_of t in
     let three = ap (λ ts. ts ++ flat_map completions ft) (flat_map-append completions rt st) in
     let four = ap (λ ts. ts ++ flat_map completions bt) (flat_map-append completions (rt ++ st) ft ∙ three) in
     record {
-      regs = lower_parts c.diagrams n rs.items (regs t) (sym (ap regs is) ∙ regs-zig _ _ _ _) above over.regs
+      regs = lower_parts c.diagrams n rs (regs t) (sym (ap regs is) ∙ regs-zig _ _ _ _) above over.regs
           (λ j l. (parts.regs j l).1);
-      sings = lower_parts c.diagrams n ss.items (sings t) (sym (ap sings is) ∙ sings-zig _ _ _ _) above over.sings
+      sings = lower_parts c.diagrams n ss (sings t) (sym (ap sings is) ∙ sings-zig _ _ _ _) above over.sings
           (λ j l. (parts.sings j l).1);
-      fwds = lower_parts c.arrows n fs.items (fwds t) (sym (ap fwds is) ∙ fwds-zig _ _ _ _) above over.fwds
+      fwds = lower_parts c.arrows n fs (fwds t) (sym (ap fwds is) ∙ fwds-zig _ _ _ _) above over.fwds
           (λ j l. (parts.fwds j l).1);
-      bwds = lower_parts c.arrows n bs.items (bwds t) (sym (ap bwds is) ∙ bwds-zig _ _ _ _) above over.bwds
+      bwds = lower_parts c.arrows n bs (bwds t) (sym (ap bwds is) ∙ bwds-zig _ _ _ _) above over.bwds
           (λ j l. (parts.bwds j l).1);
       all = ap (flat_map completions) (sym (ap children is) ∙ children-zig rt st ft bt) ∙ flat_map-append completions
           (rt ++ st ++ ft) bt ∙ four;
     }
 
-pub label_visit : (c : Contents) (i : ℕ) (n : DiagramNode) (x : _) (ids : List AnyId)
-    → described_diagram c n ≡ diagram_at c i → n ≡ d.Zero x → IsListing c ids
+pub label_visit : (c : Contents) (i : ℕ) (n : DiagramView) (x : _) (ids : List AnyId)
+    → tree_of_diagram c.arrows c.diagrams n ≡ diagram_at c i → n ≡ d.Zero x → IsListing c ids
     → Visits c ids ids (flat_map completions (children (diagram_at c i)))
 label_visit c i n x ids tree e h =
-    let none = sym (ap children (sym (ap (described_diagram c) e) ∙ tree)) ∙ children-point x in
+    let none = sym (ap children (sym (ap (tree_of_diagram c.arrows c.diagrams) e) ∙ tree)) ∙ children-point x in
     subst (λ ts. Visits c ids ids (flat_map completions ts)) (sym none) (visits-none c ids h)
 
 pub visits_parts : (c : Contents) (i : ℕ) (rs ss fs bs : List ℕ) → DiagramVisit c i rs ss fs bs

@@ -9,7 +9,7 @@ use Rattle.hashcons.specs.declared.found.FoundIds.{FoundIds}
 use Rattle.hashcons.specs.Contents.{Contents, Grows}
 use Rattle.hashcons.specs.FoundIds.{IsFound, HaveFound}
 use Rattle.hashcons.specs.Ids.{IsOf, tree_of}
-use Rattle.hashcons.proofs.FillLemmas.{id-kept}
+use Rattle.hashcons.proofs.PlacedIds.{id-kept}
 
 -- a set with one more key
 module _ {K S : Type 0} (eq : K → K → Bool) (exact : (x y : K) → eq x y ≡ true → x ≡ y) where

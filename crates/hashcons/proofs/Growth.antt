@@ -12,9 +12,9 @@ use Rattle.diagram_terms.specs.Operations.{identity_tree, composite_tree}
 use Rattle.hashcons.specs.Made.{Makes, MakesArrow, MakesArrows}
 use Rattle.hashcons.specs.Nodes.{AreArrowChildren}
 use Rattle.smallvec.specs.SmallVec.{SmallVec}
-use Rattle.hashcons.proofs.TableLemmas.{length-picked, get_or-picked}
-use Rattle.hashcons.proofs.ContentsLemmas.{Grows-refl}
-use Rattle.hashcons.proofs.FillLemmas.{id-kept}
+use Rattle.hashcons.proofs.TableTrees.{length-picked, get_or-picked}
+use Rattle.hashcons.proofs.OneMoreTree.{Grows-refl, KeepsNotes-trans}
+use Rattle.hashcons.proofs.PlacedIds.{id-kept}
 
 pub Grows-trans : (a b c : Contents) → Grows a b → Grows b c → Grows a c
 Grows-trans a b c g h = record {
@@ -23,8 +23,7 @@ Grows-trans a b c g h = record {
   arrows = λ x l. h.arrows x (g.arrows x l);
   diagram_trees = λ d l. h.diagram_trees d (g.diagrams d l) ∙ g.diagram_trees d l;
   arrow_trees = λ x l. h.arrow_trees x (g.arrows x l) ∙ g.arrow_trees x l;
-  identities = λ d x e. h.identities d x (g.identities d x e);
-  composites = λ x y z e. h.composites x y z (g.composites x y z e);
+  notes = KeepsNotes-trans a.notes b.notes c.notes g.notes h.notes;
 }
 
 -- an id of a store is one of the store that grew, with the same tree

@@ -15,7 +15,7 @@ use Rattle.hashcons.specs.declared.id.AnyId.TheVariants as id
 use Rattle.hashcons.specs.Contents.{Contents, IsStore}
 use Rattle.hashcons.specs.Ids.{tree_of, id_at}
 use Rattle.hashcons.specs.Listing.{AreOf, listed, NameEarlier, IsListing, Visits, AllStandIn, ArePlacesOf}
-use Rattle.hashcons.proofs.ListLemmas.{visits-append}
+use Rattle.hashcons.proofs.ListingGrows.{visits-append}
 use Rattle.hashcons.proofs.ListedNodes.{listing_printable, places_of_trees, all_stand}
 
 -- ---- the roots are visited in turn

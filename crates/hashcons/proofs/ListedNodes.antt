@@ -14,16 +14,16 @@ use Rattle.diagram_terms.proofs.Completions.{IsIn, AllIn, children-zig, children
 use Rattle.diagram_terms.proofs.Printing.{place_in-first, each_left, each_right, node_of-point, node_of-zig, node_of-ends, node_of-zag, IsMade, made_diagram, made_arrow, ArePrintable}
 use Rattle.hashcons.specs.declared.id.AnyId.{AnyId}
 use Rattle.hashcons.specs.declared.id.AnyId.TheVariants as id
-use Rattle.hashcons.specs.declared.node.ArrowNode.{ArrowNode}
-use Rattle.hashcons.specs.declared.node.ArrowNode.TheVariants as a
-use Rattle.hashcons.specs.declared.node.DiagramNode.{DiagramNode}
-use Rattle.hashcons.specs.declared.node.DiagramNode.TheVariants as d
+use Rattle.hashcons.specs.declared.view.ArrowView.{ArrowView}
+use Rattle.hashcons.specs.declared.view.ArrowView.TheVariants as a
+use Rattle.hashcons.specs.declared.view.DiagramView.{DiagramView}
+use Rattle.hashcons.specs.declared.view.DiagramView.TheVariants as d
 use Rattle.hashcons.specs.Contents.{Contents, IsStore, diagram_at, arrow_at}
-use Rattle.hashcons.specs.Nodes.{described_arrow, described_diagram, HasArrowsOf, HasChildrenOf}
+use Rattle.hashcons.specs.Nodes.{tree_of_arrow, tree_of_diagram, IsArrowOver, IsDiagramOver}
 use Rattle.hashcons.specs.Ids.{IsOf, tree_of, id_at}
 use Rattle.hashcons.specs.Listing.{AreOf, listed, IsListing, StandsIn, IsFirstPlace, AllStandIn, ArePlacesOf, diagram_ids, arrow_ids}
-use Rattle.hashcons.proofs.TableLemmas.{slice_get-below}
-use Rattle.hashcons.proofs.IdLemmas.{same_iff}
+use Rattle.hashcons.proofs.TableTrees.{slice_get-below}
+use Rattle.hashcons.proofs.IdsOfTrees.{same_iff}
 
 -- ---- ids of one kind
 
@@ -168,33 +168,33 @@ module _ (c : Contents) (store : IsStore c) (ids : List AnyId) (listing : IsList
       pub bwds : AreListed (arrow_ids bs)
       pub is : zig (picked c.diagrams rs) (picked c.diagrams ss) (picked c.arrows fs) (picked c.arrows bs) ≡ tree_of c x
 
-    pub diagram_children : (n : DiagramNode) (rs ss fs bs : _) → described_diagram c n ≡ tree_of c x → HasChildrenOf c n
+    pub diagram_children : (n : DiagramView) (rs ss fs bs : _) → tree_of_diagram c.arrows c.diagrams n ≡ tree_of c x → IsDiagramOver (length c.arrows) (length c.diagrams) n
         → n ≡ d.Zig rs ss fs bs
-        → DiagramChildren rs.items ss.items fs.items bs.items
+        → DiagramChildren rs ss fs bs
     diagram_children n rs ss fs bs tree children_of e =
-        let rt = picked c.diagrams rs.items in
-        let st = picked c.diagrams ss.items in
-        let ft = picked c.arrows fs.items in
-        let bt = picked c.arrows bs.items in
+        let rt = picked c.diagrams rs in
+        let st = picked c.diagrams ss in
+        let ft = picked c.arrows fs in
+        let bt = picked c.arrows bs in
         let ts = listed c ids in
         let P = IsIn ts in
-        let over : HasChildrenOf c (d.Zig rs ss fs bs) = subst (HasChildrenOf c) e children_of in
-        let is : zig rt st ft bt ≡ tree_of c x = sym (ap (described_diagram c) e) ∙ tree in
+        let over : IsDiagramOver (length c.arrows) (length c.diagrams) (d.Zig rs ss fs bs) = subst (IsDiagramOver (length c.arrows) (length c.diagrams)) e children_of in
+        let is : zig rt st ft bt ≡ tree_of c x = sym (ap (tree_of_diagram c.arrows c.diagrams) e) ∙ tree in
         let all = subst (AllIn ts) (sym (ap children is) ∙ children-zig rt st ft bt) children_listed in
         let three = each_left P (rt ++ st ++ ft) bt all in
         let two = each_left P (rt ++ st) ft three in
         record {
-          regs = listed_diagrams rs.items over.regs (each_left P rt st two);
-          sings = listed_diagrams ss.items over.sings (each_right P rt st two);
-          fwds = listed_arrows fs.items over.fwds (each_right P (rt ++ st) ft three);
-          bwds = listed_arrows bs.items over.bwds (each_right P (rt ++ st ++ ft) bt all);
+          regs = listed_diagrams rs over.regs (each_left P rt st two);
+          sings = listed_diagrams ss over.sings (each_right P rt st two);
+          fwds = listed_arrows fs over.fwds (each_right P (rt ++ st) ft three);
+          bwds = listed_arrows bs over.bwds (each_right P (rt ++ st ++ ft) bt all);
           is = is;
         }
 
-    pub label_node_is : (n : DiagramNode) (y : Label) → described_diagram c n ≡ tree_of c x → n ≡ d.Zero y
+    pub label_node_is : (n : DiagramView) (y : Label) → tree_of_diagram c.arrows c.diagrams n ≡ tree_of c x → n ≡ d.Zero y
         → node.Label y ≡ node_of (listed c ids) (tree_of c x)
     label_node_is n y tree e =
-        sym (node_of-point (listed c ids) y) ∙ ap (node_of (listed c ids)) (sym (ap (described_diagram c) e) ∙ tree)
+        sym (node_of-point (listed c ids) y) ∙ ap (node_of (listed c ids)) (sym (ap (tree_of_diagram c.arrows c.diagrams) e) ∙ tree)
 
     pub diagram_node_is : (rs ss fs bs rp sp fp bp : List ℕ) → DiagramChildren rs ss fs bs
         → ArePlacesOf ids (diagram_ids rs) (length rs) rp → ArePlacesOf ids (diagram_ids ss) (length ss) sp
@@ -216,26 +216,26 @@ module _ (c : Contents) (store : IsStore c) (ids : List AnyId) (listing : IsList
       pub sings : AreListed (arrow_ids ss)
       pub is : zag hs (picked c.arrows rs) (picked c.arrows ss) ≡ tree_of c x
 
-    pub arrow_children : (n : ArrowNode) (hs rs ss : _) → described_arrow c n ≡ tree_of c x → HasArrowsOf c n
-        → n ≡ a.Zig hs rs ss → ArrowChildren hs.items rs.items ss.items
+    pub arrow_children : (n : ArrowView) (hs rs ss : _) → tree_of_arrow c.arrows n ≡ tree_of c x → IsArrowOver (length c.arrows) n
+        → n ≡ a.Zig hs rs ss → ArrowChildren hs rs ss
     arrow_children n hs rs ss tree children_of e =
-        let rt = picked c.arrows rs.items in
-        let st = picked c.arrows ss.items in
+        let rt = picked c.arrows rs in
+        let st = picked c.arrows ss in
         let ts = listed c ids in
         let P = IsIn ts in
-        let over : HasArrowsOf c (a.Zig hs rs ss) = subst (HasArrowsOf c) e children_of in
-        let is : zag hs.items rt st ≡ tree_of c x = sym (ap (described_arrow c) e) ∙ tree in
-        let all = subst (AllIn ts) (sym (ap children is) ∙ children-zag hs.items rt st) children_listed in
+        let over : IsArrowOver (length c.arrows) (a.Zig hs rs ss) = subst (IsArrowOver (length c.arrows)) e children_of in
+        let is : zag hs rt st ≡ tree_of c x = sym (ap (tree_of_arrow c.arrows) e) ∙ tree in
+        let all = subst (AllIn ts) (sym (ap children is) ∙ children-zag hs rt st) children_listed in
         record {
-          regs = listed_arrows rs.items over.regs (each_left P rt st all);
-          sings = listed_arrows ss.items over.sings (each_right P rt st all);
+          regs = listed_arrows rs over.regs (each_left P rt st all);
+          sings = listed_arrows ss over.sings (each_right P rt st all);
           is = is;
         }
 
-    pub labels_node_is : (n : ArrowNode) (y z : Label) → described_arrow c n ≡ tree_of c x → n ≡ a.Zero y z
+    pub labels_node_is : (n : ArrowView) (y z : Label) → tree_of_arrow c.arrows n ≡ tree_of c x → n ≡ a.Zero y z
         → node.Labels y z ≡ node_of (listed c ids) (tree_of c x)
     labels_node_is n y z tree e =
-        sym (node_of-ends (listed c ids) y z) ∙ ap (node_of (listed c ids)) (sym (ap (described_arrow c) e) ∙ tree)
+        sym (node_of-ends (listed c ids) y z) ∙ ap (node_of (listed c ids)) (sym (ap (tree_of_arrow c.arrows) e) ∙ tree)
 
     pub arrow_node_is : (hs rs ss hp rp sp : List ℕ) → ArrowChildren hs rs ss → hp ≡ hs
         → ArePlacesOf ids (arrow_ids rs) (length rs) rp → ArePlacesOf ids (arrow_ids ss) (length ss) sp

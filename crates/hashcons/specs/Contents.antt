@@ -1,17 +1,18 @@
 -- What callers see of a store: the tree of each id, in the order of the ids, and the facts that were noted.
-use Rattle.std.specs.Prelude.{◌≡◌, ℕ, ◌<◌, ◌≤◌, ◌⊎◌, List, [], ◌∷◌, ◌++◌, length, get_or, refl, Bool, ◌&&◌, cond, nat_eq, Option, Some}
-use Rattle.std.specs.Coded.{Coded, code_by, coded×, coded_list, coded_ℕ}
+use Rattle.std.specs.Prelude.{◌≡◌, ℕ, ◌<◌, ◌≤◌, ◌⊎◌, List, [], ◌∷◌, ◌++◌, length, map, get_or, refl, Bool, true, nat_eq, Option, Some}
+use Rattle.std.specs.Coded.{Coded, code_by, coded×, coded_list}
+use Rattle.std.specs.List.{list_any}
 use Rattle.std.specs.Map.{lookup}
 use Rattle.diagram_terms.specs.Tree.{Tree, nil, coded_tree, regs, sings, fwds, bwds}
 use Rattle.diagram_terms.specs.Shape.{reg_at, sing_at, fwd_at, bwd_at}
 use Rattle.diagram_terms.specs.Completion.{IsAmongFirst}
 use Rattle.diagram_terms.specs.Dimension.{dimension_of, IsDiagramTree, IsArrowTree}
+use Rattle.diagram_terms.specs.Dual.{AreBelow}
+use Rattle.diagram_terms.specs.Nodes.{picked}
 use Rattle.diagram_terms.specs.Operations.{identity_tree, composite_tree}
-
--- arrows by their diagrams, and by two arrows, of which the outer one comes first
-pub record Notes : Type 0 where
-  pub identities : List (ℕ × ℕ)
-  pub composites : List ((ℕ × ℕ) × ℕ)
+use Rattle.diagram_terms.specs.ValidTrees.{IsValidTree, IsArrowBetween}
+use Rattle.hashcons.specs.NormalTrees.{TreeLeg, IsNormalTree}
+pub use Rattle.hashcons.specs.Notes.{Notes, Key, Normal, KeepsNotes, NotesMore, HasMore, no_notes, coded_notes, same_pair, same_triple, same_key}
 
 pub record Contents : Type 0 where
   pub diagrams : List Tree
@@ -20,13 +21,11 @@ pub record Contents : Type 0 where
 
 abbrev pub coded_contents : Coded Contents
 coded_contents =
-    code_by ((List Tree × List Tree) × (List (ℕ × ℕ) × List ((ℕ × ℕ) × ℕ)))
-    (coded× (coded× (coded_list coded_tree) (coded_list coded_tree)) (coded× (coded_list (coded× coded_ℕ coded_ℕ)) (coded_list (coded× (coded× coded_ℕ coded_ℕ) coded_ℕ))))
-    (λ c. ((c.diagrams, c.arrows), (c.notes.identities, c.notes.composites)))
-    (λ p. record { diagrams = p.0.0; arrows = p.0.1; notes = record { identities = p.1.0; composites = p.1.1 } }) (λ _. refl)
+    code_by ((List Tree × List Tree) × Notes) (coded× (coded× (coded_list coded_tree) (coded_list coded_tree)) coded_notes)
+    (λ c. ((c.diagrams, c.arrows), c.notes)) (λ p. record { diagrams = p.0.0; arrows = p.0.1; notes = p.1 }) (λ _. refl)
 
 abbrev pub empty : Contents
-empty = record { diagrams = []; arrows = []; notes = record { identities = []; composites = [] } }
+empty = record { diagrams = []; arrows = []; notes = no_notes }
 
 -- the id is of the store
 abbrev pub IsDiagramOf : Contents → ℕ → Type 0
@@ -42,20 +41,23 @@ diagram_at c d = get_or c.diagrams d nil
 abbrev pub arrow_at : Contents → ℕ → Tree
 arrow_at c a = get_or c.arrows a nil
 
--- whether two pairs of ids are equal
-abbrev pub same_pair : ℕ × ℕ → ℕ × ℕ → Bool
-same_pair x y = nat_eq x.0 y.0 && nat_eq x.1 y.1
-
--- what is noted as the identity of d, and as the composite of g after f
+-- what is noted: as the identity of d, and as the composite of g after f
 abbrev pub noted_identity : Contents → ℕ → Option ℕ
 noted_identity c d = lookup (nat_eq d) c.notes.identities
 
 abbrev pub noted_composite : Contents → ℕ → ℕ → Option ℕ
 noted_composite c g f = lookup (same_pair (g, f)) c.notes.composites
 
--- the second list of notes says what the first one says, and v of k
-abbrev pub NotesMore : {K X : Type 0} → (K → K → Bool) → List (K × X) → List (K × X) → K → X → Type 0
-NotesMore {K = K} eq old new k v = (q : K) → lookup (eq q) new ≡ cond (eq k q) (Some v) (lookup (eq q) old)
+-- whether d is noted as valid, and a as a valid arrow from s to t
+abbrev pub noted_valid : Contents → ℕ → Bool
+noted_valid c d = list_any (nat_eq d) c.notes.valid
+
+abbrev pub noted_valid_map : Contents → ℕ → ℕ → ℕ → Bool
+noted_valid_map c s t a = list_any (same_triple (s, t, a)) c.notes.valid_maps
+
+-- the normal form that is noted for a key
+abbrev pub noted_normal : Contents → Key → Option Normal
+noted_normal c k = lookup (same_key k) c.notes.normals
 
 -- a is the identity arrow of d
 pub record IsIdentityOf (c : Contents) (d a : ℕ) : Type 0 where
@@ -69,6 +71,43 @@ pub record IsCompositeOf (c : Contents) (g f h : ℕ) : Type 0 where
   pub inner : IsArrowOf c f
   pub composite : IsArrowOf c h
   pub tree : arrow_at c h ≡ composite_tree (arrow_at c g) (arrow_at c f)
+
+-- d is a valid diagram
+pub record IsValidDiagram (c : Contents) (d : ℕ) : Type 0 where
+  pub of_store : IsDiagramOf c d
+  pub valid : IsValidTree (diagram_at c d)
+
+-- s and t are valid diagrams, and a is a valid arrow from s to t
+pub record IsValidTriple (c : Contents) (s t a : ℕ) : Type 0 where
+  pub source : IsValidDiagram c s
+  pub target : IsValidDiagram c t
+  pub arrow : IsArrowOf c a
+  pub between : IsArrowBetween (diagram_at c s) (diagram_at c t) (arrow_at c a)
+
+-- a leg of the store, and the trees of one
+pub record IsLegOf (c : Contents) (g : ℕ × ℕ) : Type 0 where
+  pub source : IsDiagramOf c g.0
+  pub arrow : IsArrowOf c g.1
+
+abbrev pub leg_of : Contents → ℕ × ℕ → TreeLeg
+leg_of c g = record { source = diagram_at c g.0; arrow = arrow_at c g.1 }
+
+-- m is the least degeneracy for the target and the legs of k, which are valid, with the factors of these legs
+pub record IsNormalOf (c : Contents) (k : Key) (m : Normal) : Type 0 where
+  pub target : IsDiagramOf c k.target
+  pub legs : (i : ℕ) → i < length k.legs → IsLegOf c (get_or k.legs i (0, 0))
+  pub source : IsDiagramOf c m.source
+  pub arrow : IsArrowOf c m.arrow
+  pub factors : AreBelow m.factors (length c.arrows)
+  pub normal : IsNormalTree (diagram_at c k.target) (map (leg_of c) k.legs) (diagram_at c m.source) (arrow_at c m.arrow) (picked c.arrows m.factors)
+
+-- what these notes say of the ids of a store is so
+pub record AreNotes (c : Contents) (notes : Notes) : Type 0 where
+  pub identities : (d a : ℕ) → lookup (nat_eq d) notes.identities ≡ Some a → IsIdentityOf c d a
+  pub composites : (k : ℕ × ℕ) (a : ℕ) → lookup (same_pair k) notes.composites ≡ Some a → IsCompositeOf c k.0 k.1 a
+  pub valid : (d : ℕ) → list_any (nat_eq d) notes.valid ≡ true → IsValidDiagram c d
+  pub valid_maps : (k : ℕ × ℕ × ℕ) → list_any (same_triple k) notes.valid_maps ≡ true → IsValidTriple c k.0 k.1 k.2
+  pub normals : (k : Key) (m : Normal) → lookup (same_key k) notes.normals ≡ Some m → IsNormalOf c k m
 
 -- no tree stands twice in the list
 abbrev pub IsOnce : List Tree → Type 0
@@ -105,8 +144,7 @@ pub record IsStore (c : Contents) : Type 0 where
   pub diagram_dims : (d : ℕ) → IsDiagramOf c d → dimension_of (diagram_at c d) ≤ d
   pub arrow_dims : (a : ℕ) → IsArrowOf c a → dimension_of (arrow_at c a) ≤ a
   -- what is noted is so
-  pub identities : (d a : ℕ) → noted_identity c d ≡ Some a → IsIdentityOf c d a
-  pub composites : (g f h : ℕ) → noted_composite c g f ≡ Some h → IsCompositeOf c g f h
+  pub notes : AreNotes c c.notes
 
 -- each id of the first store is one of the second, with the same tree, and each note one of the second; and the second is a
 -- store too
@@ -116,8 +154,7 @@ pub record Grows (old new : Contents) : Type 0 where
   pub arrows : (a : ℕ) → IsArrowOf old a → IsArrowOf new a
   pub diagram_trees : (d : ℕ) → IsDiagramOf old d → diagram_at new d ≡ diagram_at old d
   pub arrow_trees : (a : ℕ) → IsArrowOf old a → arrow_at new a ≡ arrow_at old a
-  pub identities : (d a : ℕ) → noted_identity old d ≡ Some a → noted_identity new d ≡ Some a
-  pub composites : (g f h : ℕ) → noted_composite old g f ≡ Some h → noted_composite new g f ≡ Some h
+  pub notes : KeepsNotes old.notes new.notes
 
 -- the store with one more tree
 abbrev pub with_diagram : Contents → Tree → Contents
@@ -133,9 +170,22 @@ AddsDiagram old new t = (new ≡ old) ⊎ (new ≡ with_diagram old t)
 abbrev pub AddsArrow : Contents → Contents → Tree → Type 0
 AddsArrow old new t = (new ≡ old) ⊎ (new ≡ with_arrow old t)
 
--- the store with one more note
-abbrev pub with_identity : Contents → List (ℕ × ℕ) → Contents
-with_identity c ns = record { diagrams = c.diagrams; arrows = c.arrows; notes = record { identities = ns; composites = c.notes.composites } }
+-- the store with other notes
+abbrev pub with_notes : Contents → Notes → Contents
+with_notes c ns = record { diagrams = c.diagrams; arrows = c.arrows; notes = ns }
 
-abbrev pub with_composite : Contents → List ((ℕ × ℕ) × ℕ) → Contents
-with_composite c ns = record { diagrams = c.diagrams; arrows = c.arrows; notes = record { identities = c.notes.identities; composites = ns } }
+-- with another list of notes of one kind
+abbrev pub with_identities : Contents → List (ℕ × ℕ) → Contents
+with_identities c ns = with_notes c (record c.notes { identities = ns })
+
+abbrev pub with_composites : Contents → List ((ℕ × ℕ) × ℕ) → Contents
+with_composites c ns = with_notes c (record c.notes { composites = ns })
+
+abbrev pub with_valid : Contents → List ℕ → Contents
+with_valid c ns = with_notes c (record c.notes { valid = ns })
+
+abbrev pub with_valid_maps : Contents → List (ℕ × ℕ × ℕ) → Contents
+with_valid_maps c ns = with_notes c (record c.notes { valid_maps = ns })
+
+abbrev pub with_normals : Contents → List (Key × Normal) → Contents
+with_normals c ns = with_notes c (record c.notes { normals = ns })

@@ -1,8 +1,15 @@
+pub mod Blocks
 pub mod Contents
+pub mod Counts
+pub mod Entries
 pub mod FoundIds
 pub mod Gathers
 pub mod Ids
 pub mod Listing
 pub mod Made
 pub mod Nodes
+pub mod NormalTrees
+pub mod NoteTables
+pub mod Notes
+pub mod Storage
 pub mod Tables

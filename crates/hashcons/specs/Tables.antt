@@ -1,8 +1,8 @@
 -- The trees that tables of nodes stand for, where each node names earlier ones.
 use Rattle.std.specs.Prelude.{ℕ, ◌+◌, List, [], ◌∷◌, ◌++◌, length}
 use Rattle.diagram_terms.specs.Tree.{Tree}
-use Rattle.hashcons.specs.declared.node.DiagramNode.{DiagramNode}
-use Rattle.hashcons.specs.declared.node.ArrowNode.{ArrowNode}
+use Rattle.hashcons.specs.declared.view.DiagramView.{DiagramView}
+use Rattle.hashcons.specs.declared.view.ArrowView.{ArrowView}
 use Rattle.hashcons.specs.Contents.{Contents, Notes, IsStore}
 use Rattle.hashcons.specs.Nodes.{tree_of_arrow, tree_of_diagram, IsArrowOver, IsDiagramOver}
 
@@ -18,18 +18,18 @@ module _ {N : Type 0} where
   AreGrounded B k (n ∷ ns) = B k n × AreGrounded B (k + 1) ns
 
 -- the trees of two tables
-abbrev pub arrow_trees : List ArrowNode → List Tree
+abbrev pub arrow_trees : List ArrowView → List Tree
 arrow_trees nodes = trees_from tree_of_arrow [] nodes
 
-abbrev pub diagram_trees : List ArrowNode → List DiagramNode → List Tree
+abbrev pub diagram_trees : List ArrowView → List DiagramView → List Tree
 diagram_trees arrows nodes = trees_from (tree_of_diagram (arrow_trees arrows)) [] nodes
 
 -- what callers see of two tables and of the notes
-abbrev pub contents_of : List ArrowNode → List DiagramNode → Notes → Contents
+abbrev pub contents_of : List ArrowView → List DiagramView → Notes → Contents
 contents_of arrows diagrams notes = record { diagrams = diagram_trees arrows diagrams; arrows = arrow_trees arrows; notes = notes }
 
 -- children stand before parents, and what is true of every store
-pub record AreTables (arrows : List ArrowNode) (diagrams : List DiagramNode) (notes : Notes) : Type 0 where
+pub record AreTables (arrows : List ArrowView) (diagrams : List DiagramView) (notes : Notes) : Type 0 where
   pub arrows_grounded : AreGrounded IsArrowOver 0 arrows
   pub diagrams_grounded : AreGrounded (IsDiagramOver (length (arrow_trees arrows))) 0 diagrams
   pub store : IsStore (contents_of arrows diagrams notes)

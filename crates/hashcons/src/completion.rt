@@ -7,8 +7,8 @@ ghost use Rattle.hashcons.specs.Ids.{IsOf, tree_of};
 ghost use Rattle.hashcons.specs.Listing.{IsListing, Visits, AreOfOneDimension};
 
 use crate::id::{AnyId, ArrowId, DiagramId};
-use crate::node::{ArrowNode, DiagramNode};
 use crate::store::Store;
+use crate::view::{ArrowView, DiagramView, Held};
 use indexmap::IndexSet;
 use std::alloc::AllocError;
 
@@ -55,36 +55,32 @@ impl Store {
             (flat_map completions (children (diagram_at self.now d)))) }
     {
         match self.view_diagram(d) {
-            DiagramNode::Zero(_) => Ok(()),
-            DiagramNode::Zig {
+            DiagramView::Zero(_) => Ok(()),
+            DiagramView::Zig {
                 regs,
                 sings,
                 fwds,
                 bwds,
             } => {
-                self.visit_diagrams(regs.as_slice(), order)?;
-                self.visit_diagrams(sings.as_slice(), order)?;
-                self.visit_arrows(fwds.as_slice(), order)?;
-                self.visit_arrows(bwds.as_slice(), order)
+                self.visit_diagrams(&regs, order)?;
+                self.visit_diagrams(&sings, order)?;
+                self.visit_arrows(&fwds, order)?;
+                self.visit_arrows(&bwds, order)
             }
         }
     }
 
     /// Visits diagrams of one dimension in turn.
     #[cycle(visit_diagrams)]
-    fn visit_diagrams(
-        &self,
-        ds: &[DiagramId],
-        order: &mut IndexSet<AnyId>,
-    ) -> Result<(), AllocError>
+    fn visit_diagrams(&self, ds: &Held<'_>, order: &mut IndexSet<AnyId>) -> Result<(), AllocError>
         requires of_store { AreOfOneDimension self.now.diagrams ds.now }
         requires store { IsStore self.now }
         requires listing { IsListing self.now order.old.keys }
         ensures { OnOk result (Visits self.now order.old.keys order.new.keys
             (flat_map completions (picked self.now.diagrams ds.now))) }
     {
-        for d in ds {
-            self.visit_diagram(*d, order)?;
+        for at in 0..ds.len() {
+            self.visit_diagram(DiagramId { index: ds.at(at) }, order)?;
         }
         Ok(())
     }
@@ -116,29 +112,30 @@ impl Store {
             (flat_map completions (children (arrow_at self.now a)))) }
     {
         match self.view_arrow(a) {
-            ArrowNode::Zero(..) => Ok(()),
-            ArrowNode::Zig { regs, sings, .. } => {
-                self.visit_arrows(regs.as_slice(), order)?;
-                self.visit_arrows(sings.as_slice(), order)
+            ArrowView::Zero(..) => Ok(()),
+            ArrowView::Zig { regs, sings, .. } => {
+                self.visit_arrows(&regs, order)?;
+                self.visit_arrows(&sings, order)
             }
         }
     }
 
     /// Visits arrows of one dimension in turn.
     #[cycle(visit_arrows)]
-    fn visit_arrows(
-        &self,
-        arrows: &[ArrowId],
-        order: &mut IndexSet<AnyId>,
-    ) -> Result<(), AllocError>
+    fn visit_arrows(&self, arrows: &Held<'_>, order: &mut IndexSet<AnyId>) -> Result<(), AllocError>
         requires of_store { AreOfOneDimension self.now.arrows arrows.now }
         requires store { IsStore self.now }
         requires listing { IsListing self.now order.old.keys }
         ensures { OnOk result (Visits self.now order.old.keys order.new.keys
             (flat_map completions (picked self.now.arrows arrows.now))) }
     {
-        for a in arrows {
-            self.visit_arrow(*a, order)?;
+        for at in 0..arrows.len() {
+            self.visit_arrow(
+                ArrowId {
+                    index: arrows.at(at),
+                },
+                order,
+            )?;
         }
         Ok(())
     }

@@ -8,8 +8,8 @@ ghost use Rattle.hashcons.specs.Listing.{AreOf, listed, IsListing, NameEarlier, 
 ghost use Rattle.indexmap.specs.IndexSet.{index_set_len};
 
 use crate::id::{AnyId, ArrowId, DiagramId};
-use crate::node::{ArrowNode, DiagramNode};
 use crate::store::Store;
+use crate::view::{ArrowView, DiagramView, Held};
 use diagram_terms::{Items, Node};
 use indexmap::IndexSet;
 use std::alloc::{AllocError, Global};
@@ -89,17 +89,17 @@ impl Store {
     {
         let alloc = self.allocator();
         match self.view_diagram(d) {
-            DiagramNode::Zero(label) => Ok(Node::Label(*label)),
-            DiagramNode::Zig {
+            DiagramView::Zero(label) => Ok(Node::Label(label)),
+            DiagramView::Zig {
                 regs,
                 sings,
                 fwds,
                 bwds,
             } => Ok(Node::Diagram {
-                regs: diagram_places(alloc, order, regs.as_slice())?,
-                sings: diagram_places(alloc, order, sings.as_slice())?,
-                fwds: arrow_places(alloc, order, fwds.as_slice())?,
-                bwds: arrow_places(alloc, order, bwds.as_slice())?,
+                regs: diagram_places(alloc, order, &regs)?,
+                sings: diagram_places(alloc, order, &sings)?,
+                fwds: arrow_places(alloc, order, &fwds)?,
+                bwds: arrow_places(alloc, order, &bwds)?,
             }),
         }
     }
@@ -113,15 +113,15 @@ impl Store {
     {
         let alloc = self.allocator();
         match self.view_arrow(a) {
-            ArrowNode::Zero(from, to) => Ok(Node::Labels(*from, *to)),
-            ArrowNode::Zig {
+            ArrowView::Zero(from, to) => Ok(Node::Labels(from, to)),
+            ArrowView::Zig {
                 heights,
                 regs,
                 sings,
             } => Ok(Node::Arrow {
-                heights: Items::from_slice(alloc, heights.as_slice())?,
-                regs: arrow_places(alloc, order, regs.as_slice())?,
-                sings: arrow_places(alloc, order, sings.as_slice())?,
+                heights: numbers_of(alloc, &heights)?,
+                regs: arrow_places(alloc, order, &regs)?,
+                sings: arrow_places(alloc, order, &sings)?,
             }),
         }
     }
@@ -148,15 +148,16 @@ fn root_places(
 fn diagram_places(
     alloc: Global,
     order: &IndexSet<AnyId>,
-    ds: &[DiagramId],
+    ds: &Held<'_>,
 ) -> Result<Items<usize>, AllocError>
     requires { AllStandIn order.now.keys (diagram_ids ds.now) }
     ensures { IfOk result (λ places.
         ArePlacesOf order.now.keys (diagram_ids ds.now) (length ds.now) places) }
 {
     let mut places = Vec::new(alloc);
-    for d in ds {
-        places.push(place_of(order, AnyId::Diagram(*d)))?;
+    for at in 0..ds.len() {
+        let d = DiagramId { index: ds.at(at) };
+        places.push(place_of(order, AnyId::Diagram(d)))?;
     }
     Ok(Items::from_vec(places))
 }
@@ -165,17 +166,31 @@ fn diagram_places(
 fn arrow_places(
     alloc: Global,
     order: &IndexSet<AnyId>,
-    arrows: &[ArrowId],
+    arrows: &Held<'_>,
 ) -> Result<Items<usize>, AllocError>
     requires { AllStandIn order.now.keys (arrow_ids arrows.now) }
     ensures { IfOk result (λ places.
         ArePlacesOf order.now.keys (arrow_ids arrows.now) (length arrows.now) places) }
 {
     let mut places = Vec::new(alloc);
-    for a in arrows {
-        places.push(place_of(order, AnyId::Arrow(*a)))?;
+    for at in 0..arrows.len() {
+        let a = ArrowId {
+            index: arrows.at(at),
+        };
+        places.push(place_of(order, AnyId::Arrow(a)))?;
     }
     Ok(Items::from_vec(places))
+}
+
+/// A list of numbers as items.
+fn numbers_of(alloc: Global, held: &Held<'_>) -> Result<Items<usize>, AllocError>
+    ensures { IfOk result (λ numbers. numbers ≡ held.now) }
+{
+    let mut numbers = Vec::new(alloc);
+    for at in 0..held.len() {
+        numbers.push(held.at(at))?;
+    }
+    Ok(Items::from_vec(numbers))
 }
 
 /// The place of an id in a listing.

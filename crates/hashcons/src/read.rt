@@ -6,40 +6,40 @@ ghost use Rattle.hashcons.specs.Contents.{Contents, IsStore, IsDiagramOf, IsArro
 ghost use Rattle.hashcons.specs.Ids.{IsOf, HasDimension, tree_of};
 
 use crate::id::{AnyId, ArrowId, DiagramId};
-use crate::node::{ArrowNode, DiagramNode};
 use crate::store::Store;
+use crate::view::{ArrowView, DiagramView};
 use diagram_terms::Label;
 
 /// Calls that read one part of a node. None takes memory.
 impl Store {
     /// The length of a diagram: the count of its singular slices, 0 for a label.
-    #[tactic(auto, using(crate::proofs::PickLemmas::picks))]
+    #[tactic(auto, using(crate::proofs::PartsOfNodes::picks))]
     pub fn length(&self, d: DiagramId) -> usize
         requires of_store { IsDiagramOf self.now d }
         ensures length { result ≡ length (sings (diagram_at self.now d)) }
         ensures store { IsStore self.now }
     {
         match self.view_diagram(d) {
-            DiagramNode::Zero(_) => 0,
-            DiagramNode::Zig { sings, .. } => sings.len(),
+            DiagramView::Zero(_) => 0,
+            DiagramView::Zig { sings, .. } => sings.len(),
         }
     }
 
     /// The label of a diagram of dimension 0.
-    #[tactic(auto, using(crate::proofs::PickLemmas::picks))]
+    #[tactic(auto, using(crate::proofs::PartsOfNodes::picks))]
     pub fn label(&self, d: DiagramId) -> Label
         requires of_store { IsDiagramOf self.now d }
         requires zero { dimension_of (diagram_at self.now d) ≡ 0 }
         ensures { diagram_at self.now d ≡ point result }
     {
         match self.view_diagram(d) {
-            DiagramNode::Zero(label) => *label,
-            DiagramNode::Zig { .. } => unreachable!(),
+            DiagramView::Zero(label) => label,
+            DiagramView::Zig { .. } => unreachable!(),
         }
     }
 
     /// A regular slice of a diagram.
-    #[tactic(auto, using(crate::proofs::PickLemmas::picks))]
+    #[tactic(auto, using(crate::proofs::PartsOfNodes::picks))]
     pub fn reg(&self, d: DiagramId, at: usize) -> DiagramId
         requires of_store { IsDiagramOf self.now d }
         requires within { at < length (regs (diagram_at self.now d)) }
@@ -47,13 +47,13 @@ impl Store {
         ensures tree { diagram_at self.now result ≡ reg_at (diagram_at self.now d) at }
     {
         match self.view_diagram(d) {
-            DiagramNode::Zero(_) => unreachable!(),
-            DiagramNode::Zig { regs, .. } => regs[at],
+            DiagramView::Zero(_) => unreachable!(),
+            DiagramView::Zig { regs, .. } => DiagramId { index: regs.at(at) },
         }
     }
 
     /// A singular slice of a diagram.
-    #[tactic(auto, using(crate::proofs::PickLemmas::picks))]
+    #[tactic(auto, using(crate::proofs::PartsOfNodes::picks))]
     pub fn sing(&self, d: DiagramId, at: usize) -> DiagramId
         requires of_store { IsDiagramOf self.now d }
         requires within { at < length (sings (diagram_at self.now d)) }
@@ -61,13 +61,15 @@ impl Store {
         ensures tree { diagram_at self.now result ≡ sing_at (diagram_at self.now d) at }
     {
         match self.view_diagram(d) {
-            DiagramNode::Zero(_) => unreachable!(),
-            DiagramNode::Zig { sings, .. } => sings[at],
+            DiagramView::Zero(_) => unreachable!(),
+            DiagramView::Zig { sings, .. } => DiagramId {
+                index: sings.at(at),
+            },
         }
     }
 
     /// The leg forward into a singular slice.
-    #[tactic(auto, using(crate::proofs::PickLemmas::picks))]
+    #[tactic(auto, using(crate::proofs::PartsOfNodes::picks))]
     pub fn fwd(&self, d: DiagramId, at: usize) -> ArrowId
         requires of_store { IsDiagramOf self.now d }
         requires within { at < length (fwds (diagram_at self.now d)) }
@@ -75,13 +77,13 @@ impl Store {
         ensures tree { arrow_at self.now result ≡ fwd_at (diagram_at self.now d) at }
     {
         match self.view_diagram(d) {
-            DiagramNode::Zero(_) => unreachable!(),
-            DiagramNode::Zig { fwds, .. } => fwds[at],
+            DiagramView::Zero(_) => unreachable!(),
+            DiagramView::Zig { fwds, .. } => ArrowId { index: fwds.at(at) },
         }
     }
 
     /// The leg backward into a singular slice.
-    #[tactic(auto, using(crate::proofs::PickLemmas::picks))]
+    #[tactic(auto, using(crate::proofs::PartsOfNodes::picks))]
     pub fn bwd(&self, d: DiagramId, at: usize) -> ArrowId
         requires of_store { IsDiagramOf self.now d }
         requires within { at < length (bwds (diagram_at self.now d)) }
@@ -89,26 +91,26 @@ impl Store {
         ensures tree { arrow_at self.now result ≡ bwd_at (diagram_at self.now d) at }
     {
         match self.view_diagram(d) {
-            DiagramNode::Zero(_) => unreachable!(),
-            DiagramNode::Zig { bwds, .. } => bwds[at],
+            DiagramView::Zero(_) => unreachable!(),
+            DiagramView::Zig { bwds, .. } => ArrowId { index: bwds.at(at) },
         }
     }
 
     /// Both labels of an arrow of dimension 0.
-    #[tactic(auto, using(crate::proofs::PickLemmas::picks))]
+    #[tactic(auto, using(crate::proofs::PartsOfNodes::picks))]
     pub fn pair(&self, a: ArrowId) -> (Label, Label)
         requires of_store { IsArrowOf self.now a }
         requires zero { dimension_of (arrow_at self.now a) ≡ 0 }
         ensures { arrow_at self.now a ≡ ends result.0 result.1 }
     {
         match self.view_arrow(a) {
-            ArrowNode::Zero(from, to) => (*from, *to),
-            ArrowNode::Zig { .. } => unreachable!(),
+            ArrowView::Zero(from, to) => (from, to),
+            ArrowView::Zig { .. } => unreachable!(),
         }
     }
 
     /// The length of an arrow's source: the count of the arrow's heights.
-    #[tactic(auto, using(crate::proofs::PickLemmas::picks))]
+    #[tactic(auto, using(crate::proofs::PartsOfNodes::picks))]
     pub fn source_len(&self, a: ArrowId) -> usize
         requires of_store { IsArrowOf self.now a }
         requires above { 0 < dimension_of (arrow_at self.now a) }
@@ -116,13 +118,13 @@ impl Store {
         ensures store { IsStore self.now }
     {
         match self.view_arrow(a) {
-            ArrowNode::Zero(..) => unreachable!(),
-            ArrowNode::Zig { heights, .. } => heights.len(),
+            ArrowView::Zero(..) => unreachable!(),
+            ArrowView::Zig { heights, .. } => heights.len(),
         }
     }
 
     /// The length of an arrow's target: one less than the count of the arrow's regular slices.
-    #[tactic(auto, using(crate::proofs::PickLemmas::picks))]
+    #[tactic(auto, using(crate::proofs::PartsOfNodes::picks))]
     pub fn target_len(&self, a: ArrowId) -> usize
         requires of_store { IsArrowOf self.now a }
         requires above { 0 < dimension_of (arrow_at self.now a) }
@@ -130,13 +132,26 @@ impl Store {
         ensures store { IsStore self.now }
     {
         match self.view_arrow(a) {
-            ArrowNode::Zero(..) => unreachable!(),
-            ArrowNode::Zig { regs, .. } => regs.len() - 1,
+            ArrowView::Zero(..) => unreachable!(),
+            ArrowView::Zig { regs, .. } => regs.len() - 1,
+        }
+    }
+
+    /// The count of an arrow's regular slices: one more than the length of its target.
+    #[tactic(auto, using(crate::proofs::PartsOfNodes::picks))]
+    pub fn regs_len(&self, a: ArrowId) -> usize
+        requires of_store { IsArrowOf self.now a }
+        requires above { 0 < dimension_of (arrow_at self.now a) }
+        ensures { result ≡ length (regs (arrow_at self.now a)) }
+    {
+        match self.view_arrow(a) {
+            ArrowView::Zero(..) => unreachable!(),
+            ArrowView::Zig { regs, .. } => regs.len(),
         }
     }
 
     /// Where an arrow sends a height of its source.
-    #[tactic(auto, using(crate::proofs::PickLemmas::picks))]
+    #[tactic(auto, using(crate::proofs::PartsOfNodes::picks))]
     pub fn height(&self, a: ArrowId, at: usize) -> usize
         requires of_store { IsArrowOf self.now a }
         requires above { 0 < dimension_of (arrow_at self.now a) }
@@ -144,13 +159,13 @@ impl Store {
         ensures { result ≡ slice_index (heights (arrow_at self.now a)) at }
     {
         match self.view_arrow(a) {
-            ArrowNode::Zero(..) => unreachable!(),
-            ArrowNode::Zig { heights, .. } => heights[at],
+            ArrowView::Zero(..) => unreachable!(),
+            ArrowView::Zig { heights, .. } => heights.at(at),
         }
     }
 
     /// A regular slice of an arrow.
-    #[tactic(auto, using(crate::proofs::PickLemmas::picks))]
+    #[tactic(auto, using(crate::proofs::PartsOfNodes::picks))]
     pub fn arrow_reg(&self, a: ArrowId, at: usize) -> ArrowId
         requires of_store { IsArrowOf self.now a }
         requires above { 0 < dimension_of (arrow_at self.now a) }
@@ -159,13 +174,13 @@ impl Store {
         ensures tree { arrow_at self.now result ≡ reg_at (arrow_at self.now a) at }
     {
         match self.view_arrow(a) {
-            ArrowNode::Zero(..) => unreachable!(),
-            ArrowNode::Zig { regs, .. } => regs[at],
+            ArrowView::Zero(..) => unreachable!(),
+            ArrowView::Zig { regs, .. } => ArrowId { index: regs.at(at) },
         }
     }
 
     /// A singular slice of an arrow.
-    #[tactic(auto, using(crate::proofs::PickLemmas::picks))]
+    #[tactic(auto, using(crate::proofs::PartsOfNodes::picks))]
     pub fn arrow_sing(&self, a: ArrowId, at: usize) -> ArrowId
         requires of_store { IsArrowOf self.now a }
         requires above { 0 < dimension_of (arrow_at self.now a) }
@@ -174,8 +189,10 @@ impl Store {
         ensures tree { arrow_at self.now result ≡ sing_at (arrow_at self.now a) at }
     {
         match self.view_arrow(a) {
-            ArrowNode::Zero(..) => unreachable!(),
-            ArrowNode::Zig { sings, .. } => sings[at],
+            ArrowView::Zero(..) => unreachable!(),
+            ArrowView::Zig { sings, .. } => ArrowId {
+                index: sings.at(at),
+            },
         }
     }
 
@@ -192,27 +209,27 @@ impl Store {
         }
     }
 
-    #[tactic(auto, using(crate::proofs::PickLemmas::picks))]
+    #[tactic(auto, using(crate::proofs::PartsOfNodes::picks))]
     fn diagram_dim(&self, d: DiagramId) -> usize
         requires of_store { IsDiagramOf self.now d }
         ensures dim { result ≡ dimension_of (diagram_at self.now d) }
         ensures store { IsStore self.now }
     {
         match self.view_diagram(d) {
-            DiagramNode::Zero(_) => 0,
-            DiagramNode::Zig { regs, .. } => self.diagram_dim(regs[0]) + 1,
+            DiagramView::Zero(_) => 0,
+            DiagramView::Zig { regs, .. } => self.diagram_dim(DiagramId { index: regs.at(0) }) + 1,
         }
     }
 
-    #[tactic(auto, using(crate::proofs::PickLemmas::picks))]
+    #[tactic(auto, using(crate::proofs::PartsOfNodes::picks))]
     fn arrow_dim(&self, a: ArrowId) -> usize
         requires of_store { IsArrowOf self.now a }
         ensures dim { result ≡ dimension_of (arrow_at self.now a) }
         ensures store { IsStore self.now }
     {
         match self.view_arrow(a) {
-            ArrowNode::Zero(..) => 0,
-            ArrowNode::Zig { regs, .. } => self.arrow_dim(regs[0]) + 1,
+            ArrowView::Zero(..) => 0,
+            ArrowView::Zig { regs, .. } => self.arrow_dim(ArrowId { index: regs.at(0) }) + 1,
         }
     }
 }

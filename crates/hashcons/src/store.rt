@@ -2,9 +2,12 @@ ghost use Rattle.std.specs.Prelude.{◌≡◌};
 
 use crate::id::{ArrowId, DiagramId};
 use crate::node::{ArrowNode, DiagramNode};
-use indexmap::IndexSet;
+use crate::notes::NoteTables;
+use crate::storage::Storage;
+use crate::tables::Tables;
+use crate::view::{ArrowView, DiagramView};
+use smallvec::SmallVec;
 use std::alloc::{AllocError, Global};
-use std::collections::HashMap;
 use std::marker::Model;
 
 /// A store of diagrams and arrows, in which each tree stands once and children before parents.
@@ -13,10 +16,8 @@ use std::marker::Model;
 /// twice. An id keeps its tree, and a note stays, whatever is put later.
 #[derive(Drop)]
 pub struct Store {
-    diagrams: IndexSet<DiagramNode>,
-    arrows: IndexSet<ArrowNode>,
-    identities: HashMap<DiagramId, ArrowId>,
-    composites: HashMap<(ArrowId, ArrowId), ArrowId>,
+    tables: Tables,
+    pub(crate) notes: NoteTables,
 }
 
 impl Model for Store {
@@ -26,29 +27,31 @@ impl Model for Store {
 
     ghost coded = { coded_contents };
 
+    ghost use Rattle.hashcons.specs.Entries.{AreHeld, arrow_views, diagram_views};
+    ghost use Rattle.hashcons.specs.NoteTables.{notes_of};
     ghost use Rattle.hashcons.specs.Tables.{contents_of, AreTables};
 
-    ghost view = { λ s. contents_of s.arrows.keys s.diagrams.keys (record { identities = s.identities.entries; composites = s.composites.entries }) };
+    ghost view = { λ s. contents_of (arrow_views s.tables) (diagram_views s.tables) (notes_of s.notes) };
 
-    ghost invariant = { λ s. AreTables s.arrows.keys s.diagrams.keys (record { identities = s.identities.entries; composites = s.composites.entries }) };
+    ghost invariant = { λ s. AreTables (arrow_views s.tables) (diagram_views s.tables) (notes_of s.notes) × AreHeld s.tables };
 }
 
 impl Store {
-    ghost use Rattle.std.specs.Prelude.{◌≡◌, IfSome, OnOk, OnErr, Some, nat_eq};
-    ghost use Rattle.diagram_terms.specs.Dimension.{IsDiagramTree, IsArrowTree};
-    ghost use Rattle.hashcons.specs.Contents.{empty, IsStore, IsDiagramOf, IsArrowOf, IsIdentityOf, IsCompositeOf, NotesMore, Grows, AddsDiagram, AddsArrow, same_pair, noted_identity, noted_composite, diagram_at, arrow_at};
+    ghost use Rattle.std.specs.Prelude.{◌≡◌, ◌<◌, length, OnErr};
+    ghost use Rattle.diagram_terms.specs.Dimension.{dimension_of, IsDiagramTree, IsArrowTree};
+    ghost use Rattle.diagram_terms.specs.Dual.{AreBelow};
+    ghost use Rattle.hashcons.specs.Contents.{empty, IsStore, IsDiagramOf, IsArrowOf, AddsDiagram, AddsArrow, diagram_at, arrow_at};
+    ghost use Rattle.hashcons.specs.Storage.{storage_of};
     ghost use Rattle.hashcons.specs.Made.{MakesDiagram, MakesArrow};
-    ghost use Rattle.hashcons.specs.Nodes.{HasChildrenOf, HasArrowsOf, described_diagram, described_arrow};
+    ghost use Rattle.hashcons.specs.Nodes.{HasChildrenOf, HasArrowsOf, IsArrowOver, IsDiagramOver, described_diagram, described_arrow, described_like, tree_of_arrow, tree_of_diagram};
 
     /// A store with no nodes.
     pub fn new(alloc: Global) -> Store
         ensures { result ≡ empty }
     {
         Store {
-            diagrams: IndexSet::new(alloc),
-            arrows: IndexSet::new(alloc),
-            identities: HashMap::new(alloc),
-            composites: HashMap::new(alloc),
+            tables: Tables::new(alloc),
+            notes: NoteTables::new(alloc),
         }
     }
 
@@ -56,7 +59,7 @@ impl Store {
     pub fn allocator(&self) -> Global
         ensures { IsStore self.now }
     {
-        *self.diagrams.allocator()
+        self.tables.allocator()
     }
 
     /// The id of the arrow that the node describes.
@@ -67,7 +70,28 @@ impl Store {
         ensures adds { AddsArrow self.old self.new (described_arrow self.old node) }
         ensures err { OnErr result (self.new ≡ self.old) }
     {
-        let (index, _) = self.arrows.insert_full(node)?;
+        let index = self.tables.put_arrow(&node)?;
+        Ok(ArrowId { index })
+    }
+
+    /// The id of the arrow with these heights and singular slices, and with the regular slices of
+    /// `like`, whose list is not copied.
+    pub fn put_arrow_like(
+        &mut self,
+        like: ArrowId,
+        heights: SmallVec<usize, 4>,
+        sings: SmallVec<ArrowId, 4>,
+    ) -> Result<ArrowId, AllocError>
+        requires like { IsArrowOf self.old like }
+        requires above { 0 < dimension_of (arrow_at self.old like) }
+        requires sings { AreBelow sings.items (length self.old.arrows) }
+        requires shape { IsArrowTree (described_like self.old like heights.items sings.items) }
+        ensures made { MakesArrow self.old self.new (described_like self.old like heights.items sings.items) result }
+        ensures adds { AddsArrow self.old self.new (described_like self.old like heights.items sings.items) }
+        ensures err { OnErr result (self.new ≡ self.old) }
+    {
+        let tables = &mut self.tables;
+        let index = tables.put_arrow_like(like.index, heights.as_slice(), sings.as_slice())?;
         Ok(ArrowId { index })
     }
 
@@ -79,74 +103,35 @@ impl Store {
         ensures adds { AddsDiagram self.old self.new (described_diagram self.old node) }
         ensures err { OnErr result (self.new ≡ self.old) }
     {
-        let (index, _) = self.diagrams.insert_full(node)?;
+        let index = self.tables.put_diagram(&node)?;
         Ok(DiagramId { index })
     }
 
-    /// The node of a diagram.
-    pub fn view_diagram(&self, id: DiagramId) -> &DiagramNode
+    /// How many distinct trees the store holds, and how many distinct lists of their slices, legs
+    /// and heights and how many distinct blocks it keeps of them. It takes no memory.
+    pub fn storage(&self) -> Storage
+        ensures { result ≡ storage_of self.now }
+    {
+        self.tables.storage()
+    }
+
+    /// A diagram, by the ids of its slices and legs.
+    pub(crate) fn view_diagram(&self, id: DiagramId) -> DiagramView<'_>
         requires of_store { IsDiagramOf self.now id }
-        ensures tree { described_diagram self.now result.now ≡ diagram_at self.now id }
-        ensures children { HasChildrenOf self.now result.now }
+        ensures tree { tree_of_diagram self.now.arrows self.now.diagrams result ≡ diagram_at self.now id }
+        ensures children { IsDiagramOver (length self.now.arrows) (length self.now.diagrams) result }
         ensures store { IsStore self.now }
     {
-        &self.diagrams[id.index]
+        self.tables.diagram(id.index)
     }
 
-    /// The node of an arrow.
-    pub fn view_arrow(&self, id: ArrowId) -> &ArrowNode
+    /// An arrow, by its heights and the ids of its slices.
+    pub(crate) fn view_arrow(&self, id: ArrowId) -> ArrowView<'_>
         requires of_store { IsArrowOf self.now id }
-        ensures tree { described_arrow self.now result.now ≡ arrow_at self.now id }
-        ensures children { HasArrowsOf self.now result.now }
+        ensures tree { tree_of_arrow self.now.arrows result ≡ arrow_at self.now id }
+        ensures children { IsArrowOver (length self.now.arrows) result }
         ensures store { IsStore self.now }
     {
-        &self.arrows[id.index]
-    }
-
-    /// The identity arrow of `d`, where it is noted.
-    pub fn known_identity(&self, d: DiagramId) -> Option<ArrowId>
-        ensures value { result ≡ noted_identity self.now d }
-        ensures right { IfSome result (IsIdentityOf self.now d) }
-        ensures store { IsStore self.now }
-    {
-        self.identities.get(&d).copied()
-    }
-
-    /// Notes the identity arrow of a diagram. Where it is noted, nothing changes.
-    pub fn note_identity(&mut self, d: DiagramId, identity: ArrowId) -> Result<(), AllocError>
-        requires { IsIdentityOf self.old d identity }
-        ensures notes { OnOk result (NotesMore nat_eq self.old.notes.identities self.new.notes.identities d identity) }
-        ensures noted { OnOk result (noted_identity self.new d ≡ Some identity) }
-        ensures grows { Grows self.old self.new }
-        ensures err { OnErr result (self.new ≡ self.old) }
-    {
-        self.identities.insert(d, identity)?;
-        Ok(())
-    }
-
-    /// The composite of `g` after `f`, where it is noted.
-    pub fn known_composite(&self, g: ArrowId, f: ArrowId) -> Option<ArrowId>
-        ensures value { result ≡ noted_composite self.now g f }
-        ensures right { IfSome result (IsCompositeOf self.now g f) }
-        ensures store { IsStore self.now }
-    {
-        self.composites.get(&(g, f)).copied()
-    }
-
-    /// Notes the composite of two arrows. Where it is noted, nothing changes.
-    pub fn note_composite(
-        &mut self,
-        g: ArrowId,
-        f: ArrowId,
-        made: ArrowId,
-    ) -> Result<(), AllocError>
-        requires { IsCompositeOf self.old g f made }
-        ensures notes { OnOk result (NotesMore same_pair self.old.notes.composites self.new.notes.composites (g, f) made) }
-        ensures noted { OnOk result (noted_composite self.new g f ≡ Some made) }
-        ensures grows { Grows self.old self.new }
-        ensures err { OnErr result (self.new ≡ self.old) }
-    {
-        self.composites.insert((g, f), made)?;
-        Ok(())
+        self.tables.arrow(id.index)
     }
 }

@@ -3,18 +3,7 @@
 
 ghost use Rattle.std.specs.Prelude.{◌≡◌, ◌⊎◌, IfErr};
 
-mod answer;
-mod look;
-mod nodes;
-mod program;
-mod replay;
-mod slice;
-mod status;
-mod words;
-mod writing;
-
-use crate::program::run;
-use crate::status::Status;
+use hom_run::{Status, run};
 use io_edge::{StdSink, StdSource};
 use std::env;
 use std::io::ErrorKind;
@@ -49,6 +38,3 @@ fn main(rt: HostRuntime) -> ExitCode {
     };
     ExitCode::from(status.number())
 }
-
-#[cfg(test)]
-mod tests;

@@ -1,3 +1,2 @@
-pub mod GrownStores
-pub mod HeldIds
-pub mod PlaceLemmas
+pub mod NodePlaces
+pub mod PlacedDiagrams

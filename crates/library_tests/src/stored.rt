@@ -1,4 +1,4 @@
-ghost use Rattle.std.specs.Prelude.{◌≡◌, IfOk, OnOk, slice_get};
+ghost use Rattle.std.specs.Prelude.{◌≡◌, IfOk, OnOk};
 ghost use Rattle.diagram_terms.specs.FaultsOnTrees.{diagram_fault};
 ghost use Rattle.diagram_terms.specs.Nodes.{AreNodes, tree_at};
 ghost use Rattle.hashcons.specs.Contents.{Grows, IsArrowOf, IsDiagramOf};
@@ -8,42 +8,12 @@ ghost use Rattle.zigzag_maps.specs.Visits.{fault_of};
 
 use crate::unshared::unshared;
 use diagram_terms::{Node, Place, first_bad_square};
-use hashcons::{AnyId, ArrowId, DiagramId, Store};
-use node_json::{Document, FormFault, read_document};
+use hashcons::Store;
 use plain_maps::plain;
 use std::alloc::{AllocError, Global};
 use std::test::Fail;
+use store_fixtures::{arrow_at, diagram_at, document_of};
 use zigzag_maps::{Map, SquareTest, compose, identity, squares, valid};
-
-/// The document with these nodes, and no entries.
-fn document_of(alloc: Global, nodes: &str) -> Result<Document, FormFault>
-    ensures { IfOk result (λ document. AreNodes document.nodes) }
-{
-    let text = format!(in alloc;
-        "{{\"diagrams\":[],\"format\":1,\"generators\":[],\"maps\":[],\"nodes\":[{nodes}]}}"
-    )?;
-    read_document(alloc, text.as_bytes())
-}
-
-/// The diagram whose id stands at a place.
-fn diagram_at(ids: &[AnyId], place: usize) -> Result<DiagramId, Fail>
-    ensures { IfOk result (λ d. slice_get ids.now place ≡ Some (AnyId.Diagram d)) }
-{
-    match ids.get(place) {
-        Some(AnyId::Diagram(d)) => Ok(*d),
-        _ => Err(Fail::from("no diagram stands there")),
-    }
-}
-
-/// The arrow whose id stands at a place.
-fn arrow_at(ids: &[AnyId], place: usize) -> Result<ArrowId, Fail>
-    ensures { IfOk result (λ a. slice_get ids.now place ≡ Some (AnyId.Arrow a)) }
-{
-    match ids.get(place) {
-        Some(AnyId::Arrow(a)) => Ok(*a),
-        _ => Err(Fail::from("no arrow stands there")),
-    }
-}
 
 /// The places of the ends and of the arrow of a map.
 #[derive(Clone, Copy)]
@@ -171,7 +141,7 @@ pub(crate) fn diagram_faults(
     let mut store = Store::new(alloc);
     let ids = store.put_nodes(document.nodes.as_slice())?;
     let diagram = diagram_at(&ids, place)?;
-    let plain = plain_fault(alloc, document.nodes.as_slice(), place)?;
+    let plain = plain_fault(store.allocator(), document.nodes.as_slice(), place)?;
     let stored = place_of(valid(alloc, &mut store, diagram)?);
     Ok((plain, stored))
 }

@@ -1,2 +1,2 @@
-pub mod LooseLemmas
-pub mod PlainLemmas
+pub mod LooseTests
+pub mod PlainSlices

@@ -8,7 +8,7 @@ ghost use Rattle.plain_maps.specs.Plainness.{IsArrowAt, IsPlainDiagramTree, loos
 use crate::plain_arrows::is_plain_once;
 use crate::plain_kept::PlainKept;
 use diagram_terms::{End, Items, Place, Step, place_here};
-use hashcons::{AnyId, ArrowId, DiagramId, FoundIds, Store};
+use hashcons::{AnyId, ArrowId, DiagramId, Store};
 use std::alloc::{AllocError, Global};
 use zigzag_maps::{Reading, Walk, first_in};
 
@@ -24,9 +24,8 @@ pub fn first_loose(
 {
     let dim = store.dim(AnyId::Diagram(d));
     let mut kept = PlainKept::new(alloc);
-    let mut passed = FoundIds::new(alloc);
     let mut reading = Reading { store };
-    let found = first_in(alloc, &mut reading, &mut kept, &mut passed, dim, d)?;
+    let found = first_in(alloc, &mut reading, &mut kept, dim, d)?;
     Ok(steps_to(found))
 }
 
@@ -37,13 +36,27 @@ fn steps_to(found: Option<Place>) -> Option<Items<Step>>
     found.map(|place| place.steps)
 }
 
-/// The tests of the legs, which keep the arrows that were found plain.
+/// The tests of the legs, where the arrows that were found plain are kept, and the diagrams that
+/// passed.
 impl<'a> Walk<Reading<'a>> for PlainKept {
     ghost right = { ArePlain };
 
     ghost tests = { plain_tests_in };
 
     ghost legs = { legs_at };
+
+    fn has_passed(&self, reading: &Reading<'a>, d: DiagramId) -> bool {
+        self.passed.has(AnyId::Diagram(d))
+    }
+
+    fn pass(
+        &mut self,
+        reading: &mut Reading<'a>,
+        dim: usize,
+        d: DiagramId,
+    ) -> Result<(), AllocError> {
+        self.passed.keep(AnyId::Diagram(d))
+    }
 
     fn leg(
         &mut self,

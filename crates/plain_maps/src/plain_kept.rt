@@ -1,13 +1,14 @@
 use hashcons::FoundIds;
 use std::alloc::Global;
 
-/// What was found out about the arrows of a store, so that no call looks at one twice: which are
-/// plain, and which have the shape of an identity. What is not is not kept, since the first leg that
-/// is not plain ends the search.
+/// What was found out about a store that is only read, so that no call looks at one thing twice:
+/// which arrows are plain, which have the shape of an identity, and in which diagrams each leg is
+/// plain. What is not is not kept, since the first leg that is not plain ends the search.
 #[derive(Drop)]
 pub(crate) struct PlainKept {
     pub(crate) arrows: FoundIds,
     pub(crate) identities: FoundIds,
+    pub(crate) passed: FoundIds,
 }
 
 impl PlainKept {
@@ -20,6 +21,7 @@ impl PlainKept {
         PlainKept {
             arrows: FoundIds::new(alloc),
             identities: FoundIds::new(alloc),
+            passed: FoundIds::new(alloc),
         }
     }
 }

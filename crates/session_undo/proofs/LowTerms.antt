@@ -12,7 +12,7 @@ use Rattle.diagram_terms.specs.Shape.{IsDiagram}
 use Rattle.diagram_terms.specs.Tree.{Tree, sings}
 use Rattle.diagram_terms.specs.Typing.{Generator, IsGoodGenerator, first_of, generator_dim}
 use Rattle.diagram_terms.proofs.Dimensions.{diagram_dimension, diagram_parts_of}
-use Rattle.boundary_paths.proofs.ConeLemmas.{type_shape}
+use Rattle.boundary_paths.proofs.ConesBySlices.{type_shape}
 use Rattle.workspace_json.specs.declared.refusal.Refusal.TheVariants as refusal
 use Rattle.workspace_json.specs.Steps.{end_of, known, or_refuse}
 use Rattle.workspace_json.specs.Workspaces.{IsWorkspace, NamedDiagram, NamedGenerator, Workspace, diagram_named, generators_of, term, type_named}

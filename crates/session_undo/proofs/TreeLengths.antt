@@ -7,8 +7,8 @@ use Rattle.diagram_terms.specs.Family.{length_of}
 use Rattle.diagram_terms.specs.Shape.{IsDiagram}
 use Rattle.diagram_terms.specs.Tree.{Tree, label_at, sings}
 use Rattle.diagram_terms.proofs.Glue.{dia-sings_len}
-use Rattle.boundary_paths.proofs.ConeLemmas.{identity_diagram_tree-is}
-use Rattle.hashcons.proofs.PickLemmas.{length-sings_point}
+use Rattle.boundary_paths.proofs.ConesBySlices.{identity_diagram_tree-is}
+use Rattle.hashcons.proofs.PartsOfNodes.{length-sings_point}
 
 pub tree_length : (d : ℕ) (t : Tree) → IsDiagram d t → length (sings t) ≡ length_of d (dia d t)
 tree_length zero t h = ap (λ (u : Tree). length (sings u)) h ∙ length-sings_point (label_at t)

@@ -1,20 +1,11 @@
 -- Ids that were put into a store may be the roots of a listing.
-use Rattle.std.proofs.Common.{◌≡◌, ℕ, zero, suc, ◌<◌, List, [], ◌∷◌, length, get_or, sym, ◌∙◌, subst, arith}
-use Rattle.std.proofs.lemmas.Option.{slice_get-get_or, same_Some}
+use Rattle.std.proofs.Common.{◌≡◌, ℕ, zero, suc, ◌<◌, List, [], ◌∷◌, length, get_or, arith}
 use Rattle.diagram_terms.specs.Tree.{Tree}
 use Rattle.hashcons.specs.declared.id.AnyId.{AnyId}
-use Rattle.hashcons.specs.declared.id.AnyId.TheVariants as id
 use Rattle.hashcons.specs.Contents.{Contents}
 use Rattle.hashcons.specs.Ids.{IsOf, GathersIds, id_at}
 use Rattle.hashcons.specs.Listing.{AreOf}
-
--- an id that stands in the list is of the store
-of_store : (c : Contents) (ids : List AnyId) (n : ℕ) (f : ℕ → Tree) → GathersIds c ids n f → (place : ℕ) (x : AnyId)
-    → place < length ids → x ≡ get_or ids place x → IsOf c x
-of_store c ids n f held place x l is =
-    let e = held.len in
-    let same = sym (slice_get-get_or ids place (id.Diagram 0) l) ∙ slice_get-get_or ids place x l in
-    subst (IsOf c) (same_Some (id_at ids place) (get_or ids place x) same ∙ sym is) (held.of_store place (omega arith))
+use Rattle.store_fixtures.proofs.PlacedIds.{read_id_of_store}
 
 at_one : (c : Contents) (x : AnyId) → IsOf c x → (i : ℕ) → i < length (x ∷ []) → IsOf c (id_at (x ∷ []) i)
 at_one c x h zero l = h
@@ -29,10 +20,10 @@ at_three c x y z h k m (suc (suc (suc i))) l = absurd (omega arith)
 
 module _ (c : Contents) (ids : List AnyId) (n : ℕ) (f : ℕ → Tree) (held : GathersIds c ids n f) where
   pub one_root : (i : ℕ) (x : AnyId) → i < length ids → x ≡ get_or ids i x → AreOf c (x ∷ [])
-  one_root i x l e = record { of_store = at_one c x (of_store c ids n f held i x l e) }
+  one_root i x l e = record { of_store = at_one c x (read_id_of_store c ids n f held i x l e) }
 
   pub three_roots : (i j k : ℕ) (x y z : AnyId) → i < length ids → j < length ids → k < length ids
       → x ≡ get_or ids i x → y ≡ get_or ids j y → z ≡ get_or ids k z → AreOf c (x ∷ y ∷ z ∷ [])
   three_roots i j k x y z l l' l'' e e' e'' = record {
-    of_store = at_three c x y z (of_store c ids n f held i x l e) (of_store c ids n f held j y l' e') (of_store c ids n f held k z l'' e'');
+    of_store = at_three c x y z (read_id_of_store c ids n f held i x l e) (read_id_of_store c ids n f held j y l' e') (read_id_of_store c ids n f held k z l'' e'');
   }

@@ -1,5 +1,6 @@
 mod heights;
 mod identities;
 mod labels;
+mod storage;
 mod store;
 mod trees;

@@ -15,7 +15,7 @@ use Rattle.smallvec.specs.SmallVec.{SmallVec}
 use Rattle.hashcons.proofs.Growth.{gathers-arrows_grow, gathers-picked}
 use Rattle.diagram_terms.specs.Operations.{composite_tree}
 use Rattle.diagram_terms.specs.ValidTrees.{AreComposable}
-use Rattle.zigzag_maps.proofs.CompositeLemmas.{has_composite}
+use Rattle.zigzag_maps.proofs.CompositeSlices.{has_composite}
 
 composable_same : (g f o i : Tree) → g ≡ o → f ≡ i → AreComposable g f → AreComposable o i
 composable_same g f o i p q c = subst (λ (t : Tree). AreComposable t i) p (subst (AreComposable g) q c)

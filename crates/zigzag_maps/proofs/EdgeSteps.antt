@@ -13,12 +13,12 @@ use Rattle.diagram_terms.proofs.Decisions.{dual_next}
 use Rattle.diagram_terms.proofs.Duals.{dual-le-length}
 use Rattle.diagram_terms.proofs.Glue.{dia-sings_len, dia-reg, dia-sing, dia-fwd, dia-bwd}
 use Rattle.hashcons.specs.Contents.{Contents, Grows, IsStore, IsArrowOf, diagram_at, arrow_at}
-use Rattle.hashcons.proofs.ContentsLemmas.{Grows-refl}
+use Rattle.hashcons.proofs.OneMoreTree.{Grows-refl}
 use Rattle.hashcons.proofs.Growth.{Grows-trans, store-kept, diagram-kept, arrow-kept}
 use Rattle.zigzag_maps.specs.declared.map.Map.{Map}
 use Rattle.diagram_terms.specs.ValidTrees.{IsValidTreeAt, IsArrowBetweenAt, AreComposable}
-use Rattle.zigzag_maps.specs.Visits.{FitsEnds, HasValidSlices, IsValidSlicewise, square_holds, last_edge, edge_before}
-use Rattle.zigzag_maps.proofs.EdgeLemmas.{EdgesAgree, edge_at, holds_at, agree_at}
+use Rattle.zigzag_maps.specs.Visits.{FitsEnds, HasValidSlices, IsValidSlicewise, square_holds, right_edge, enter_edge}
+use Rattle.zigzag_maps.proofs.SquareEdges.{EdgesAgree, edge_at, holds_at, agree_at}
 use Rattle.zigzag_maps.proofs.FaultSteps.{map_at-grows, map_trees}
 
 -- ---- a store that grew
@@ -227,13 +227,13 @@ module _ (c : Contents) (n : ℕ) (m : Map) (k from to : ℕ) (h : IsValidSlicew
   ]
 
   -- an edge that differs
-  pub stops : (i : ℕ) → from ≤ i → i < to → edge_at S T F k from i ≢ edge_before S F i → false ≡ square_holds S T F k
+  pub stops : (i : ℕ) → from ≤ i → i < to → edge_at S T F k from i ≢ enter_edge S F i → false ≡ square_holds S T F k
   stops i l u differ = not_true (λ e. (let agree = (square_agrees c n m k h over).0 e in
       differ (ap (λ a. edge_at S T F k a i) from_is ∙ agree.each i (omega (arith, from_is)) (omega (arith, to_next)))))
 
   -- all edges but the last agree: the last one decides
-  pub last_decides : (r : Bool) → ((i : ℕ) → from ≤ i → i < to → edge_at S T F k from i ≡ edge_before S F i)
-      → (r ≡ true ↔ (edge_at S T F k from to ≡ last_edge T F k)) → r ≡ square_holds S T F k
+  pub last_decides : (r : Bool) → ((i : ℕ) → from ≤ i → i < to → edge_at S T F k from i ≡ enter_edge S F i)
+      → (r ≡ true ↔ (edge_at S T F k from to ≡ right_edge T F k)) → r ≡ square_holds S T F k
   last_decides true each d = sym ((square_agrees c n m k h over).1 (record {
     each = λ i l u. ap (λ a. edge_at S T F k a i) (sym from_is) ∙ each i (omega (arith, from_is)) (omega (arith, to_next));
     last = (λ i. edge_at S T F k (sym from_is i) (sym to_next i)) ∙ d.0 refl;

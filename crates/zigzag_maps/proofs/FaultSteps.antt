@@ -20,10 +20,9 @@ use Rattle.zigzag_maps.specs.declared.map.Map.{Map}
 use Rattle.zigzag_maps.specs.Found.{IsValidDiagram, IsValidMap}
 use Rattle.diagram_terms.specs.ValidTrees.{IsValidTreeAt, IsValidTree}
 use Rattle.zigzag_maps.specs.Visits.{IsMapAt, FitsEnds, reg_tests, sing_tests}
-use Rattle.hashcons.proofs.ContentsLemmas.{Grows-refl}
+use Rattle.hashcons.proofs.OneMoreTree.{Grows-refl}
 use Rattle.hashcons.proofs.Growth.{Grows-trans, store-kept, diagram-kept, arrow-kept}
-use Rattle.zigzag_maps.proofs.KeepLemmas.{maps-grow}
-use Rattle.zigzag_maps.proofs.VisitLemmas.{between_from, between_passes, ends_place}
+use Rattle.zigzag_maps.proofs.TestsOfArrows.{between_from, between_passes, ends_place}
 
 -- ---- a store that grew
 
@@ -197,4 +196,4 @@ lengths_above (suc d) s t f l hs ht hf = record {
 pub map_lengths : (c : Contents) (n : ℕ) (m : Map) → 0 < n → IsMapAt c n m → MapLengths n (diagram_at c m.source) (diagram_at c m.target) (arrow_at c m.arrow)
 map_lengths c n m l h = lengths_above n _ _ _ l h.source_valid.shape h.target_valid.shape h.arrow_shape
 
-pub ruleset faults = (Grows-refl, Grows-trans, store-kept, diagram-kept, arrow-kept, maps-grow, map_at-grows, fits-grows)
+pub ruleset faults = (Grows-refl, Grows-trans, store-kept, diagram-kept, arrow-kept, map_at-grows, fits-grows)

@@ -1,16 +1,16 @@
-pub mod CompositeLemmas
+pub mod CompositeSlices
 pub mod CompositeSteps
-pub mod EdgeLemmas
+pub mod SquareEdges
 pub mod EdgeSteps
 pub mod FaultSteps
-pub mod IdentityLemmas
-pub mod KeepLemmas
+pub mod IdentitySlices
+pub mod KeptMaps
 pub mod SliceMaps
 pub mod ValidArrows
-pub mod ValidityLemmas
+pub mod TestsByParts
 pub mod ValiditySteps
 pub mod Verdicts
-pub mod VisitLemmas
+pub mod TestsOfArrows
 pub mod Visiting
 mod ValidMaps
-pub mod WalkLemmas
+pub mod SlicesBeforeLegs

@@ -15,10 +15,10 @@ use Rattle.zigzag_maps.specs.declared.map.Map.{Map}
 use Rattle.zigzag_maps.specs.Found.{IsValidDiagram, IsValidMap}
 use Rattle.diagram_terms.specs.Operations.{identity_tree, composite_tree}
 use Rattle.diagram_terms.specs.ValidTrees.{IsValidTree, IsArrowBetween}
-use Rattle.zigzag_maps.proofs.CompositeLemmas.{composite_shape, composable_between_at}
-use Rattle.zigzag_maps.proofs.IdentityLemmas.{identity_shape}
+use Rattle.zigzag_maps.proofs.CompositeSlices.{composite_shape, composable_between_at}
+use Rattle.zigzag_maps.proofs.IdentitySlices.{identity_shape}
 use Rattle.diagram_terms.proofs.NotionsOnTrees.{on_diagram_at, on_arrow_at}
-use Rattle.zigzag_maps.proofs.KeepLemmas.{valid_diagram-grows}
+use Rattle.zigzag_maps.proofs.KeptMaps.{valid_diagram-grows}
 
 -- ---- trees
 

@@ -4,16 +4,14 @@ use Rattle.diagram_terms.specs.Tree.{Tree, sings}
 use Rattle.diagram_terms.specs.Shape.{IsDiagram, IsArrow, reg_at, sing_at, fwd_at, bwd_at}
 use Rattle.diagram_terms.specs.Places.{first_failure}
 use Rattle.hashcons.specs.Contents.{Contents, Grows, IsDiagramOf, IsArrowOf, diagram_at, arrow_at}
-use Rattle.hashcons.proofs.ContentsLemmas.{Grows-refl}
-use Rattle.hashcons.proofs.FoundStays.{found-grows}
+use Rattle.hashcons.proofs.OneMoreTree.{Grows-refl}
 use Rattle.hashcons.proofs.Growth.{Grows-trans, store-kept, diagram-kept, arrow-kept}
 use Rattle.zigzag_maps.specs.declared.map.Map.{Map}
 use Rattle.zigzag_maps.specs.Found.{IsValidDiagram}
 use Rattle.diagram_terms.specs.ValidTrees.{IsValidTreeAt}
 use Rattle.zigzag_maps.specs.Visits.{IsMapAt}
 use Rattle.zigzag_maps.specs.DiagramTests.{IsDiagramAt, HasValidParts, tests_in}
-use Rattle.zigzag_maps.proofs.KeepLemmas.{maps-grow}
-use Rattle.zigzag_maps.proofs.ValidityLemmas.{valid_from, valid_passes}
+use Rattle.zigzag_maps.proofs.TestsByParts.{valid_from, valid_passes}
 
 -- ---- a store that grew
 
@@ -26,9 +24,9 @@ is_diagram_at-grows old new n d g h = record {
 pub parts-grow : (old new : Contents) (n m d : ℕ) → Grows old new → IsDiagramAt old n d → HasValidParts m (diagram_at old d) → HasValidParts m (diagram_at new d)
 parts-grow old new n m d g h p = subst (HasValidParts m) (sym (g.diagram_trees d h.of_store)) p
 
-pub ruleset diagrams = (Grows-refl, Grows-trans, store-kept, diagram-kept, arrow-kept, maps-grow, is_diagram_at-grows, parts-grow)
+pub ruleset diagrams = (Grows-refl, Grows-trans, store-kept, diagram-kept, arrow-kept, is_diagram_at-grows, parts-grow)
 
-pub ruleset steps = (Grows-refl, Grows-trans, store-kept, diagram-kept, arrow-kept, is_diagram_at-grows, found-grows)
+pub ruleset steps = (Grows-refl, Grows-trans, store-kept, diagram-kept, arrow-kept, is_diagram_at-grows)
 
 -- ---- what was kept, and what is to be kept
 

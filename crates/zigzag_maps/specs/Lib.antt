@@ -1,5 +1,4 @@
 pub mod Found
-pub mod Keeps
 pub mod Visits
 pub mod DiagramTests
 pub mod Walks

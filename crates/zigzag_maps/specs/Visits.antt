@@ -75,15 +75,15 @@ pub record IsValidSlicewise (c : Contents) (d : ℕ) (m : Map) : Type 0 where
 -- ---- the edges of the square of an arrow f from s to t over the height k of t: arrows to the singular slice of t there
 
 -- along t, from the regular slices before and behind k
-abbrev pub first_edge : Tree → Tree → ℕ → Tree
-first_edge t f k = composite_tree (fwd_at t k) (reg_at f k)
+abbrev pub left_edge : Tree → Tree → ℕ → Tree
+left_edge t f k = composite_tree (fwd_at t k) (reg_at f k)
 
-abbrev pub last_edge : Tree → Tree → ℕ → Tree
-last_edge t f k = composite_tree (bwd_at t k) (reg_at f (suc k))
+abbrev pub right_edge : Tree → Tree → ℕ → Tree
+right_edge t f k = composite_tree (bwd_at t k) (reg_at f (suc k))
 
 -- through the height i of s, which goes to k, from the regular slices before and behind i
-abbrev pub edge_before : Tree → Tree → ℕ → Tree
-edge_before s f i = composite_tree (sing_at f i) (fwd_at s i)
+abbrev pub enter_edge : Tree → Tree → ℕ → Tree
+enter_edge s f i = composite_tree (sing_at f i) (fwd_at s i)
 
-abbrev pub edge_behind : Tree → Tree → ℕ → Tree
-edge_behind s f i = composite_tree (sing_at f i) (bwd_at s i)
+abbrev pub leave_edge : Tree → Tree → ℕ → Tree
+leave_edge s f i = composite_tree (sing_at f i) (bwd_at s i)

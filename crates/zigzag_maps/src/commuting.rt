@@ -4,7 +4,7 @@ ghost use Rattle.diagram_terms.specs.Places.{at_each, first_failure, here};
 ghost use Rattle.diagram_terms.specs.Tree.{heights, regs, sings};
 ghost use Rattle.hashcons.specs.Contents.{Grows, IsStore, diagram_at, arrow_at};
 ghost use Rattle.hashcons.specs.Made.{MakesArrow};
-ghost use Rattle.zigzag_maps.specs.Visits.{IsValidSlicewise, square_tests, square_holds, first_edge, last_edge, edge_before, edge_behind};
+ghost use Rattle.zigzag_maps.specs.Visits.{IsValidSlicewise, square_tests, square_holds, left_edge, right_edge, enter_edge, leave_edge};
 
 use crate::composites::{composite, dual_from};
 use crate::map::Map;
@@ -67,21 +67,21 @@ fn square_commutes(
         (diagram_at store.old f.now.source) (diagram_at store.old f.now.target) (arrow_at store.old f.now.arrow) fibre.over) }
     ensures grows { Grows store.old store.new }
 {
-    let mut edge = first_edge(alloc, store, dim, f, fibre.over)?;
+    let mut edge = left_edge(alloc, store, dim, f, fibre.over)?;
     for i in fibre.from..fibre.to {
-        let before = edge_before(alloc, store, dim, f, i)?;
+        let before = enter_edge(alloc, store, dim, f, i)?;
         if before != edge {
             return Ok(false);
         }
-        edge = edge_behind(alloc, store, dim, f, i)?;
+        edge = leave_edge(alloc, store, dim, f, i)?;
     }
-    let last = last_edge(alloc, store, dim, f, fibre.over)?;
+    let last = right_edge(alloc, store, dim, f, fibre.over)?;
     Ok(edge == last)
 }
 
 /// The edge along the target from the regular slice before the height `k`.
 #[tactic(auto, using(crate::proofs::EdgeSteps::edges))]
-fn first_edge(
+fn left_edge(
     alloc: Global,
     store: &mut Store,
     dim: usize,
@@ -90,7 +90,7 @@ fn first_edge(
 ) -> Result<ArrowId, AllocError>
     requires slicewise { IsValidSlicewise store.old dim f.now }
     requires within { k < length (sings (diagram_at store.old f.now.target)) }
-    ensures { MakesArrow store.old store.new (first_edge (diagram_at store.old f.now.target) (arrow_at store.old f.now.arrow) k) result }
+    ensures { MakesArrow store.old store.new (left_edge (diagram_at store.old f.now.target) (arrow_at store.old f.now.arrow) k) result }
 {
     let leg = store.fwd(f.target, k);
     let slice = store.arrow_reg(f.arrow, k);
@@ -99,7 +99,7 @@ fn first_edge(
 
 /// The edge along the target from the regular slice behind the height `k`.
 #[tactic(auto, using(crate::proofs::EdgeSteps::edges))]
-fn last_edge(
+fn right_edge(
     alloc: Global,
     store: &mut Store,
     dim: usize,
@@ -109,7 +109,7 @@ fn last_edge(
     requires slicewise { IsValidSlicewise store.old dim f.now }
     requires within { k < length (sings (diagram_at store.old f.now.target)) }
     requires fits { k < usize.MAX }
-    ensures { MakesArrow store.old store.new (last_edge (diagram_at store.old f.now.target) (arrow_at store.old f.now.arrow) k) result }
+    ensures { MakesArrow store.old store.new (right_edge (diagram_at store.old f.now.target) (arrow_at store.old f.now.arrow) k) result }
 {
     let leg = store.bwd(f.target, k);
     let slice = store.arrow_reg(f.arrow, k + 1);
@@ -118,7 +118,7 @@ fn last_edge(
 
 /// The edge through the height `i` of the source from the regular slice before it.
 #[tactic(auto, using(crate::proofs::EdgeSteps::edges))]
-fn edge_before(
+fn enter_edge(
     alloc: Global,
     store: &mut Store,
     dim: usize,
@@ -127,7 +127,7 @@ fn edge_before(
 ) -> Result<ArrowId, AllocError>
     requires slicewise { IsValidSlicewise store.old dim f.now }
     requires within { i < length (heights (arrow_at store.old f.now.arrow)) }
-    ensures { MakesArrow store.old store.new (edge_before (diagram_at store.old f.now.source) (arrow_at store.old f.now.arrow) i) result }
+    ensures { MakesArrow store.old store.new (enter_edge (diagram_at store.old f.now.source) (arrow_at store.old f.now.arrow) i) result }
 {
     let slice = store.arrow_sing(f.arrow, i);
     let leg = store.fwd(f.source, i);
@@ -136,7 +136,7 @@ fn edge_before(
 
 /// The edge through the height `i` of the source from the regular slice behind it.
 #[tactic(auto, using(crate::proofs::EdgeSteps::edges))]
-fn edge_behind(
+fn leave_edge(
     alloc: Global,
     store: &mut Store,
     dim: usize,
@@ -145,7 +145,7 @@ fn edge_behind(
 ) -> Result<ArrowId, AllocError>
     requires slicewise { IsValidSlicewise store.old dim f.now }
     requires within { i < length (heights (arrow_at store.old f.now.arrow)) }
-    ensures { MakesArrow store.old store.new (edge_behind (diagram_at store.old f.now.source) (arrow_at store.old f.now.arrow) i) result }
+    ensures { MakesArrow store.old store.new (leave_edge (diagram_at store.old f.now.source) (arrow_at store.old f.now.arrow) i) result }
 {
     let slice = store.arrow_sing(f.arrow, i);
     let leg = store.bwd(f.source, i);

@@ -38,7 +38,7 @@ pub fn compose(alloc: Global, store: &mut Store, g: Map, f: Map) -> Result<Map, 
 
 /// The composite of two arrows of dimension `dim`, worked out once.
 #[cycle(composites)]
-#[tactic(auto, using(crate::proofs::CompositeLemmas::composes))]
+#[tactic(auto, using(crate::proofs::CompositeSlices::composes))]
 pub(crate) fn composite(
     alloc: Global,
     store: &mut Store,
@@ -65,7 +65,7 @@ pub(crate) fn composite(
 
 /// The composite of two arrows that is not noted.
 #[cycle(composites)]
-#[tactic(auto, using(crate::proofs::CompositeLemmas::composes))]
+#[tactic(auto, using(crate::proofs::CompositeSlices::composes))]
 fn composite_anew(
     alloc: Global,
     store: &mut Store,
@@ -109,7 +109,7 @@ fn composite_of_pairs(store: &mut Store, g: ArrowId, f: ArrowId) -> Result<Arrow
 }
 
 /// Where the composite sends the heights of its source.
-#[tactic(auto, using(crate::proofs::CompositeLemmas::composes))]
+#[tactic(auto, using(crate::proofs::CompositeSlices::composes))]
 fn composite_heights(
     alloc: Global,
     store: &Store,
@@ -131,7 +131,7 @@ fn composite_heights(
 
 /// The regular slices of a composite: those of `g`, each after that of `f` at its dual.
 #[cycle(composites)]
-#[tactic(auto, using(crate::proofs::CompositeLemmas::composes))]
+#[tactic(auto, using(crate::proofs::CompositeSlices::composes))]
 fn regular_composites(
     alloc: Global,
     store: &mut Store,
@@ -165,7 +165,7 @@ fn regular_composites(
 
 /// The singular slices of a composite: those of `f`, each before that of `g` at its height.
 #[cycle(composites)]
-#[tactic(auto, using(crate::proofs::CompositeLemmas::composes))]
+#[tactic(auto, using(crate::proofs::CompositeSlices::composes))]
 fn singular_composites(
     alloc: Global,
     store: &mut Store,

@@ -6,12 +6,10 @@ ghost use Rattle.diagram_terms.specs.Places.{at_each, ends_hold, first_failure, 
 ghost use Rattle.diagram_terms.specs.Tree.{heights, regs, sings};
 ghost use Rattle.hashcons.specs.Contents.{IsDiagramOf, IsArrowOf, Grows, IsStore, diagram_at, arrow_at};
 ghost use Rattle.zigzag_maps.specs.Found.{IsValidDiagram, IsValidMap};
-ghost use Rattle.zigzag_maps.specs.Keeps.{AreValidMaps};
 ghost use Rattle.zigzag_maps.specs.Visits.{IsMapAt, FitsEnds, HasValidSlices, fault_of, lengths_are, reg_tests, sing_tests, square_tests, square_holds};
 
 use crate::commuting::square_fault;
 use crate::composites::dual_from;
-use crate::kept::ValidMaps;
 use crate::map::Map;
 use crate::outcome::SquareTest;
 use diagram_terms::{End, Label, Place, Step, place_here, place_under};
@@ -34,8 +32,7 @@ pub fn squares(alloc: Global, store: &mut Store, f: Map) -> Result<SquareTest, A
     if source_dim != dim || target_dim != dim {
         return Ok(SquareTest::Fault(place_here(alloc, End::Ends)));
     }
-    let mut kept = ValidMaps::new(alloc);
-    let found = map_fault(alloc, store, &mut kept, dim, &f)?;
+    let found = map_fault(alloc, store, dim, &f)?;
     Ok(outcome_of(found))
 }
 
@@ -62,51 +59,45 @@ pub fn found_in(
     }
 }
 
-/// Where an arrow of dimension `dim` between valid diagrams of that dimension fails first, worked
-/// out once for each arrow with its ends.
+/// Where an arrow of dimension `dim` between valid diagrams of that dimension fails first. An arrow
+/// that is valid between its ends is noted.
 #[cycle(faults)]
 #[tactic(auto, using(crate::proofs::FaultSteps::faults))]
 pub(crate) fn map_fault(
     alloc: Global,
     store: &mut Store,
-    kept: &mut ValidMaps,
     dim: usize,
     f: &Map,
 ) -> Result<Option<Place>, AllocError>
     requires map { IsMapAt store.old dim f.now }
-    requires kept { AreValidMaps store.old kept.old }
     requires store { IsStore store.old }
     ensures exact { IfOk result (λ found. found ≡ first_failure
         (tests_between (diagram_at store.old f.now.source) (diagram_at store.old f.now.target) (arrow_at store.old f.now.arrow))) }
-    ensures kept { AreValidMaps store.new kept.new }
     ensures grows { Grows store.old store.new }
 {
-    if kept.has_valid_map(f) {
+    if store.known_valid_map(f.source, f.target, f.arrow) {
         return Ok(None);
     }
-    if let Some(place) = fault_anew(alloc, store, kept, dim, f)? {
+    if let Some(place) = fault_anew(alloc, store, dim, f)? {
         return Ok(Some(place));
     }
-    kept.keep_valid_map(f)?;
+    store.note_valid_map(f.source, f.target, f.arrow)?;
     Ok(None)
 }
 
-/// Where an arrow that is not kept as valid fails first.
+/// Where an arrow that is not noted as valid fails first.
 #[cycle(faults)]
 #[tactic(auto, using(crate::proofs::FaultSteps::faults))]
 fn fault_anew(
     alloc: Global,
     store: &mut Store,
-    kept: &mut ValidMaps,
     dim: usize,
     f: &Map,
 ) -> Result<Option<Place>, AllocError>
     requires map { IsMapAt store.old dim f.now }
-    requires kept { AreValidMaps store.old kept.old }
     requires store { IsStore store.old }
     ensures exact { IfOk result (λ found. found ≡ first_failure
         (tests_between (diagram_at store.old f.now.source) (diagram_at store.old f.now.target) (arrow_at store.old f.now.arrow))) }
-    ensures kept { AreValidMaps store.new kept.new }
     ensures grows { Grows store.old store.new }
 {
     if dim == 0 {
@@ -118,10 +109,10 @@ fn fault_anew(
     if !lengths_fit(store, f) {
         return Ok(Some(place_here(alloc, End::Ends)));
     }
-    if let Some(place) = regular_fault(alloc, store, kept, dim, f)? {
+    if let Some(place) = regular_fault(alloc, store, dim, f)? {
         return Ok(Some(place));
     }
-    if let Some(place) = singular_fault(alloc, store, kept, dim, f)? {
+    if let Some(place) = singular_fault(alloc, store, dim, f)? {
         return Ok(Some(place));
     }
     square_fault(alloc, store, dim, f)
@@ -164,30 +155,27 @@ fn lengths_fit(store: &Store, f: &Map) -> bool
 fn regular_fault(
     alloc: Global,
     store: &mut Store,
-    kept: &mut ValidMaps,
     dim: usize,
     f: &Map,
 ) -> Result<Option<Place>, AllocError>
     requires map { IsMapAt store.old dim f.now }
     requires above { 0 < dim }
     requires fits { FitsEnds (diagram_at store.old f.now.source) (diagram_at store.old f.now.target) (arrow_at store.old f.now.arrow) }
-    requires kept { AreValidMaps store.old kept.old }
     requires store { IsStore store.old }
     ensures exact { IfOk result (λ found. found ≡ first_failure
         (at_each (suc (length (sings (diagram_at store.old f.now.target))))
         (reg_tests (diagram_at store.old f.now.source) (diagram_at store.old f.now.target) (arrow_at store.old f.now.arrow)))) }
-    ensures kept { AreValidMaps store.new kept.new }
     ensures grows { Grows store.old store.new }
 {
     let last = store.length(f.target);
     let mut below = 0;
     for j in 0..last {
-        if let Some(place) = regular_slice_fault(alloc, store, kept, dim, f, j, below)? {
+        if let Some(place) = regular_slice_fault(alloc, store, dim, f, j, below)? {
             return Ok(Some(place));
         }
         below = dual_from(store, f.arrow, below, j + 1);
     }
-    regular_slice_fault(alloc, store, kept, dim, f, last, below)
+    regular_slice_fault(alloc, store, dim, f, last, below)
 }
 
 /// The first fault in the regular slice at `j`, where `below` heights go below `j`.
@@ -196,7 +184,6 @@ fn regular_fault(
 fn regular_slice_fault(
     alloc: Global,
     store: &mut Store,
-    kept: &mut ValidMaps,
     dim: usize,
     f: &Map,
     j: usize,
@@ -207,11 +194,9 @@ fn regular_slice_fault(
     requires fits { FitsEnds (diagram_at store.old f.now.source) (diagram_at store.old f.now.target) (arrow_at store.old f.now.arrow) }
     requires within { j ≤ length (sings (diagram_at store.old f.now.target)) }
     requires below { below ≡ dual (heights (arrow_at store.old f.now.arrow)) j }
-    requires kept { AreValidMaps store.old kept.old }
     requires store { IsStore store.old }
     ensures exact { IfOk result (λ found. found ≡ first_failure
         (reg_tests (diagram_at store.old f.now.source) (diagram_at store.old f.now.target) (arrow_at store.old f.now.arrow) j)) }
-    ensures kept { AreValidMaps store.new kept.new }
     ensures grows { Grows store.old store.new }
 {
     let slice = Map {
@@ -219,7 +204,7 @@ fn regular_slice_fault(
         target: store.reg(f.target, j),
         arrow: store.arrow_reg(f.arrow, j),
     };
-    let found = map_fault(alloc, store, kept, dim - 1, &slice)?;
+    let found = map_fault(alloc, store, dim - 1, &slice)?;
     found_in(alloc, Step::R(j), found)
 }
 
@@ -229,19 +214,16 @@ fn regular_slice_fault(
 fn singular_fault(
     alloc: Global,
     store: &mut Store,
-    kept: &mut ValidMaps,
     dim: usize,
     f: &Map,
 ) -> Result<Option<Place>, AllocError>
     requires map { IsMapAt store.old dim f.now }
     requires above { 0 < dim }
     requires fits { FitsEnds (diagram_at store.old f.now.source) (diagram_at store.old f.now.target) (arrow_at store.old f.now.arrow) }
-    requires kept { AreValidMaps store.old kept.old }
     requires store { IsStore store.old }
     ensures exact { IfOk result (λ found. found ≡ first_failure
         (at_each (length (sings (diagram_at store.old f.now.source)))
         (sing_tests (diagram_at store.old f.now.source) (diagram_at store.old f.now.target) (arrow_at store.old f.now.arrow)))) }
-    ensures kept { AreValidMaps store.new kept.new }
     ensures grows { Grows store.old store.new }
 {
     for i in 0..store.length(f.source) {
@@ -250,7 +232,7 @@ fn singular_fault(
             target: store.sing(f.target, store.height(f.arrow, i)),
             arrow: store.arrow_sing(f.arrow, i),
         };
-        let found = map_fault(alloc, store, kept, dim - 1, &slice)?;
+        let found = map_fault(alloc, store, dim - 1, &slice)?;
         if let Some(place) = found_in(alloc, Step::S(i), found)? {
             return Ok(Some(place));
         }

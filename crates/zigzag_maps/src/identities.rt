@@ -32,7 +32,7 @@ pub fn identity(alloc: Global, store: &mut Store, d: DiagramId) -> Result<Map, A
 
 /// The identity arrow of a diagram of dimension `dim`, worked out once.
 #[cycle(identities)]
-#[tactic(auto, using(crate::proofs::IdentityLemmas::identifies))]
+#[tactic(auto, using(crate::proofs::IdentitySlices::identifies))]
 pub(crate) fn identity_arrow(
     alloc: Global,
     store: &mut Store,
@@ -53,7 +53,7 @@ pub(crate) fn identity_arrow(
 
 /// The identity arrow of a diagram for which none is noted.
 #[cycle(identities)]
-#[tactic(auto, using(crate::proofs::IdentityLemmas::identifies))]
+#[tactic(auto, using(crate::proofs::IdentitySlices::identifies))]
 fn identity_anew(
     alloc: Global,
     store: &mut Store,
@@ -81,7 +81,7 @@ fn identity_anew(
 
 /// The identities of the regular slices of a diagram, in order.
 #[cycle(identities)]
-#[tactic(auto, using(crate::proofs::IdentityLemmas::identifies))]
+#[tactic(auto, using(crate::proofs::IdentitySlices::identifies))]
 fn regular_identities(
     alloc: Global,
     store: &mut Store,
@@ -107,7 +107,7 @@ fn regular_identities(
 
 /// The identities of the singular slices of a diagram, in order.
 #[cycle(identities)]
-#[tactic(auto, using(crate::proofs::IdentityLemmas::identifies))]
+#[tactic(auto, using(crate::proofs::IdentitySlices::identifies))]
 fn singular_identities(
     alloc: Global,
     store: &mut Store,
@@ -130,7 +130,7 @@ fn singular_identities(
 }
 
 /// The heights below `n`, in order.
-#[tactic(auto, using(crate::proofs::IdentityLemmas::upto_more))]
+#[tactic(auto, using(crate::proofs::IdentitySlices::upto_more))]
 fn heights_below(alloc: Global, n: usize) -> Result<SmallVec<usize, 4>, AllocError>
     ensures { IfOk result (λ heights. heights.items ≡ upto n) }
 {

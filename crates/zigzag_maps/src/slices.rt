@@ -8,20 +8,7 @@ ghost use Rattle.zigzag_maps.specs.Found.{IsValidDiagram, IsValidMap};
 ghost use Rattle.zigzag_maps.specs.MapTrees.{IsMapWith};
 
 use crate::map::Map;
-use hashcons::{ArrowId, ArrowNode, DiagramId, Store};
-
-/// How many regular slices an arrow has: one more than its target has heights.
-#[tactic(auto, using(hashcons::proofs::PickLemmas::picks))]
-pub fn regs_len(store: &Store, a: ArrowId) -> usize
-    requires of_store { IsArrowOf store.now a }
-    requires above { 0 < dimension_of (arrow_at store.now a) }
-    ensures { result ≡ length (regs (arrow_at store.now a)) }
-{
-    match store.view_arrow(a) {
-        ArrowNode::Zero(..) => unreachable!(),
-        ArrowNode::Zig { regs, .. } => regs.len(),
-    }
-}
+use hashcons::{ArrowId, DiagramId, Store};
 
 /// How many heights of an arrow are below `k`: the dual of its heights at `k`.
 pub fn dual_of(store: &Store, a: ArrowId, k: usize) -> usize

@@ -1,17 +1,16 @@
-ghost use Rattle.std.specs.Prelude.{◌≡◌, ◌<◌, IfOk, List, length, suc, Some};
+ghost use Rattle.std.specs.Prelude.{◌≡◌, ◌<◌, IfOk, IsTrue, List, length, suc, Some};
 ghost use Rattle.diagram_terms.specs.declared.place.Step.{Step};
 ghost use Rattle.diagram_terms.specs.Order.{LeadsIn, PassedBefore, regs_before, sings_before};
 ghost use Rattle.diagram_terms.specs.Places.{Test, first_failure};
 ghost use Rattle.diagram_terms.specs.Tree.{Tree, sings};
 ghost use Rattle.hashcons.specs.Contents.{Contents, Grows, IsStore, diagram_at};
-ghost use Rattle.hashcons.specs.FoundIds.{HaveFound};
 ghost use Rattle.zigzag_maps.specs.Walks.{IsWalk, LeadsToLeg, PassesTests, tests_in_part};
 ghost use Rattle.zigzag_maps.specs.DiagramTests.{IsDiagramAt};
 
 use crate::faults::found_in;
 use crate::order::next_step;
 use diagram_terms::{Place, Step};
-use hashcons::{AnyId, DiagramId, FoundIds, Store};
+use hashcons::{DiagramId, Store};
 use std::alloc::{AllocError, Global};
 
 /// What a walk goes through: a store that is only read, or one that grows meanwhile.
@@ -47,12 +46,25 @@ impl<'a> Held for Reading<'a> {
 
 /// What is tested in the legs of a diagram.
 pub trait Walk<S: Held> {
-    /// What is kept of legs is right over this store.
+    /// What is kept of this store is right.
     ghost right: { Contents → Self → Type 0 };
     /// The tests of a diagram, and those of its legs.
     ghost tests: { Tree → List Test };
 
     ghost legs: { Tree → Step → List Test };
+
+    /// Whether a diagram is known to have passed: none of its tests fails.
+    fn has_passed(&self, store: &S, d: DiagramId) -> bool
+        requires right { right (S.contents store.now) self.now }
+        ensures { IsTrue result → PassesTests tests (diagram_at (S.contents store.now) d) };
+
+    /// A diagram has passed.
+    fn pass(&mut self, store: &mut S, dim: usize, d: DiagramId) -> Result<(), AllocError>
+        requires diagram { IsDiagramAt (S.contents store.old) dim d }
+        requires passes { PassesTests tests (diagram_at (S.contents store.old) d) }
+        requires right { right (S.contents store.old) self.old }
+        ensures right { right (S.contents store.new) self.new }
+        ensures grows { Grows (S.contents store.old) (S.contents store.new) };
 
     /// The first test that fails in the leg to which `step` leads, seen from there.
     fn leg(
@@ -75,57 +87,51 @@ pub trait Walk<S: Held> {
         ensures grows { Grows (S.contents store.old) (S.contents store.new) };
 }
 
-/// Where the first test of a diagram of dimension `dim` is that fails. Each diagram is looked at
-/// once: `passed` are those in which none fails.
+/// Where the first test of a diagram of dimension `dim` is that fails. A diagram in which none fails
+/// is looked at once.
 #[cycle(walks)]
 #[tactic(auto, using(crate::proofs::ValiditySteps::steps))]
 pub fn first_in<S: Held, W: Walk<S>>(
     alloc: Global,
     store: &mut S,
     walk: &mut W,
-    passed: &mut FoundIds,
     dim: usize,
     d: DiagramId,
 ) -> Result<Option<Place>, AllocError>
     requires law { IsWalk W.tests W.legs }
     requires diagram { IsDiagramAt (S.contents store.old) dim d }
     requires right { W.right (S.contents store.old) walk.old }
-    requires passed { HaveFound (S.contents store.old) (PassesTests W.tests) passed.old }
     requires store { IsStore (S.contents store.old) }
     ensures exact { IfOk result (λ found. found ≡ first_failure (W.tests (diagram_at (S.contents store.old) d))) }
     ensures right { W.right (S.contents store.new) walk.new }
-    ensures passed { HaveFound (S.contents store.new) (PassesTests W.tests) passed.new }
     ensures grows { Grows (S.contents store.old) (S.contents store.new) }
 {
-    if passed.has(AnyId::Diagram(d)) {
+    if walk.has_passed(store, d) {
         return Ok(None);
     }
-    if let Some(place) = first_in_parts(alloc, store, walk, passed, dim, d)? {
+    if let Some(place) = first_in_parts(alloc, store, walk, dim, d)? {
         return Ok(Some(place));
     }
-    passed.keep(AnyId::Diagram(d))?;
+    walk.pass(store, dim, d)?;
     Ok(None)
 }
 
 /// The first one in the parts of a diagram, in the order of visiting.
 #[cycle(walks)]
 #[tactic(auto, using(crate::proofs::ValiditySteps::steps))]
-fn first_in_parts<S: Held, W: Walk<S>>(
+pub(crate) fn first_in_parts<S: Held, W: Walk<S>>(
     alloc: Global,
     store: &mut S,
     walk: &mut W,
-    passed: &mut FoundIds,
     dim: usize,
     d: DiagramId,
 ) -> Result<Option<Place>, AllocError>
     requires law { IsWalk W.tests W.legs }
     requires diagram { IsDiagramAt (S.contents store.old) dim d }
     requires right { W.right (S.contents store.old) walk.old }
-    requires passed { HaveFound (S.contents store.old) (PassesTests W.tests) passed.old }
     requires store { IsStore (S.contents store.old) }
     ensures exact { IfOk result (λ found. found ≡ first_failure (W.tests (diagram_at (S.contents store.old) d))) }
     ensures right { W.right (S.contents store.new) walk.new }
-    ensures passed { HaveFound (S.contents store.new) (PassesTests W.tests) passed.new }
     ensures grows { Grows (S.contents store.old) (S.contents store.new) }
 {
     if dim == 0 {
@@ -134,7 +140,7 @@ fn first_in_parts<S: Held, W: Walk<S>>(
     let length = store.store().length(d);
     let mut next = Some(Step::R(0));
     while let Some(step) = next {
-        let found = first_at(alloc, store, walk, passed, dim, d, step)?;
+        let found = first_at(alloc, store, walk, dim, d, step)?;
         if let Some(place) = found_in(alloc, step, found)? {
             return Ok(Some(place));
         }
@@ -150,7 +156,6 @@ fn first_at<S: Held, W: Walk<S>>(
     alloc: Global,
     store: &mut S,
     walk: &mut W,
-    passed: &mut FoundIds,
     dim: usize,
     d: DiagramId,
     step: Step,
@@ -162,21 +167,19 @@ fn first_at<S: Held, W: Walk<S>>(
     requires before { PassedBefore (tests_in_part W.tests W.legs (diagram_at (S.contents store.old) d))
         (regs_before (length (sings (diagram_at (S.contents store.old) d))) (Some step)) (sings_before (length (sings (diagram_at (S.contents store.old) d))) (Some step)) }
     requires right { W.right (S.contents store.old) walk.old }
-    requires passed { HaveFound (S.contents store.old) (PassesTests W.tests) passed.old }
     requires store { IsStore (S.contents store.old) }
     ensures exact { IfOk result (λ found. found ≡ first_failure (tests_in_part W.tests W.legs (diagram_at (S.contents store.old) d) step)) }
     ensures right { W.right (S.contents store.new) walk.new }
-    ensures passed { HaveFound (S.contents store.new) (PassesTests W.tests) passed.new }
     ensures grows { Grows (S.contents store.old) (S.contents store.new) }
 {
     match step {
         Step::R(j) => {
             let slice = store.store().reg(d, j);
-            first_in(alloc, store, walk, passed, dim - 1, slice)
+            first_in(alloc, store, walk, dim - 1, slice)
         }
         Step::S(i) => {
             let slice = store.store().sing(d, i);
-            first_in(alloc, store, walk, passed, dim - 1, slice)
+            first_in(alloc, store, walk, dim - 1, slice)
         }
         _ => walk.leg(alloc, store, dim, d, step),
     }

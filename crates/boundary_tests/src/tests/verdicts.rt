@@ -2,10 +2,12 @@ ghost use Rattle.std.specs.Prelude.{◌≡◌, [], IfOk, OnOk, length};
 ghost use Rattle.hashcons.specs.Contents.{IsDiagramOf};
 ghost use Rattle.typecheck.specs.Signatures.{IsGoodOver};
 
-use boundary_paths::{source, target};
+use super::ends_of;
 use diagram_terms::{Fault, Label};
-use hashcons::{AnyId, DiagramId, DiagramNode, Store};
+use hashcons::{AnyId, DiagramId, Store};
+use std::alloc::Global;
 use std::test::Fail;
+use store_fixtures::{label_of, put_label};
 use typecheck::{AddRefusal, Signature, Verdict};
 
 const X: Label = Label { number: 0, dim: 0 };
@@ -32,34 +34,42 @@ fn add_loop(
 }
 
 #[test]
-#[tactic(auto, using(hashcons::proofs::Growth::growth, diagram_terms::proofs::Dimensions::labels, typecheck::proofs::ForCallers::signatures))]
+#[tactic(auto, using(typecheck::proofs::ForCallers::signatures))]
 fn labels_and_types(rt: HostRuntime) -> Result<(), Fail> {
     let mut store = Store::new(rt.alloc());
     let mut signature = Signature::new(rt.alloc());
     let (point, whole) = add_loop(&mut store, &mut signature)?;
     assert_eq!(rt; signature.label(0), X);
     assert_eq!(rt; signature.label(1), F);
-    assert_eq!(rt; store.dim(AnyId::Diagram(point)), 0);
-    assert_eq!(rt; store.label(point), X);
+    assert_eq!(rt; label_of(&store, point), Some(X));
     assert_eq!(rt; store.dim(AnyId::Diagram(whole)), 1);
     assert_eq!(rt; store.length(whole), 1);
-    assert_eq!(rt; source(&store, whole), point);
-    assert_eq!(rt; target(&store, whole), point);
+    assert_eq!(rt; ends_of(&store, whole), Some((point, point)));
     Ok(())
 }
 
-#[test]
-#[tactic(auto, using(hashcons::proofs::Growth::growth, diagram_terms::proofs::Dimensions::labels, typecheck::proofs::ForCallers::signatures))]
-fn refusals_and_verdicts(rt: HostRuntime) -> Result<(), Fail> {
-    let mut store = Store::new(rt.alloc());
-    let mut signature = Signature::new(rt.alloc());
+/// What is answered to a generator from x to the type of f, and the verdicts on that type and on the
+/// diagram of the label of f.
+#[tactic(auto, using(typecheck::proofs::ForCallers::signatures))]
+fn answers_over_a_loop(
+    alloc: Global,
+) -> Result<(Result<Label, AddRefusal>, Verdict, Verdict), AddRefusal> {
+    let mut store = Store::new(alloc);
+    let mut signature = Signature::new(alloc);
     let (point, whole) = add_loop(&mut store, &mut signature)?;
     let refused = signature.add(&mut store, Some((point, whole)));
+    let on_type = signature.check(&mut store, whole)?;
+    let f = put_label(&mut store, F)?;
+    let on_label = signature.check(&mut store, f)?;
+    Ok((refused, on_type, on_label))
+}
+
+#[test]
+fn refusals_and_verdicts(rt: HostRuntime) -> Result<(), Fail> {
+    let (refused, on_type, on_label) = answers_over_a_loop(rt.alloc())?;
     assert!(rt; matches!(refused, Err(AddRefusal::DimDiffers)));
-    assert!(rt; matches!(signature.check(&mut store, whole)?, Verdict::Yes));
-    let f = store.put_diagram(DiagramNode::Zero(F))?;
-    let verdict = signature.check(&mut store, f)?;
-    assert!(rt; matches!(verdict, Verdict::No(Fault::TypeAt(_))));
+    assert!(rt; matches!(on_type, Verdict::Yes));
+    assert!(rt; matches!(on_label, Verdict::No(Fault::TypeAt(_))));
     Ok(())
 }
 

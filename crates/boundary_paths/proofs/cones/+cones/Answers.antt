@@ -6,8 +6,8 @@ use Rattle.diagram_terms.proofs.Dimensions.{diagram_dimension}
 use Rattle.hashcons.specs.Contents.{diagram_at}
 use Rattle.hashcons.proofs.Growth.{Grows-trans, Makes-last, gathers-arrow_more}
 use Rattle.zigzag_maps.proofs.ValiditySteps.{is_diagram_at-grows, reg_slice, sing_slice}
-use Rattle.boundary_paths.proofs.ConeLemmas.{IsArrowTree-cone_tree}
-use Rattle.boundary_paths.proofs.ConeSteps.{described_cone, cone_made, described_type, cone_of_slice}
+use Rattle.boundary_paths.proofs.ConesBySlices.{IsArrowTree-cone_tree}
+use Rattle.boundary_paths.proofs.ConeSteps.{described_cone, cone_made, described_type, cone_of_slice, cones-grow}
 use Rattle.boundary_paths.proofs.cones.+cones.Goals as goal
 
 pub cone_anew-put_arrow-requires-clause-shape : goal.cone_anew-put_arrow-requires-clause-shape
@@ -100,3 +100,15 @@ singular_cones-cone_of-requires t c =
         (inv.cones, inv.grows.store c.requires.store),
       ),
     )
+
+-- ---- the cones that were made
+
+pub cone_anew-returns-clause-cones : goal.cone_anew-returns-clause-cones
+cone_anew-returns-clause-cones t c =
+    cones-grow c.singular_cones.new.store c.put_arrow.new.self c.args.x c.singular_cones.new.made
+    (Grows-trans c.singular_cones.new.store c.identities.new.store c.put_arrow.new.self c.identities.ensures.grows c.put_arrow.ensures.made.grows)
+    c.in_ok-sings.ensures.cones
+
+pub cospan_of_cones-returns-clause-cones : goal.cospan_of_cones-returns-clause-cones
+cospan_of_cones-returns-clause-cones t c =
+    cones-grow c.cone_of-2.new.store c.put_diagram.new.self c.args.x c.cone_of-2.new.made c.put_diagram.ensures.made.grows c.in_ok-second.ensures.cones

@@ -1,9 +1,9 @@
 use Rattle.std.proofs.Common.{sym, subst}
 use Rattle.diagram_terms.specs.Dimension.{IsDiagramTree}
 use Rattle.hashcons.specs.Contents.{diagram_at}
-use Rattle.hashcons.proofs.ContentsLemmas.{Grows-refl}
+use Rattle.hashcons.proofs.OneMoreTree.{Grows-refl}
 use Rattle.hashcons.proofs.Growth.{Makes-last}
-use Rattle.boundary_paths.proofs.ConeLemmas.{described_identity, IsDiagramTree-identity_diagram_tree}
+use Rattle.boundary_paths.proofs.ConesBySlices.{described_identity, IsDiagramTree-identity_diagram_tree}
 use Rattle.boundary_paths.proofs.degenerate.identity_diagram.Goals as goal
 
 pub put_diagram-requires-clause-shape : goal.put_diagram-requires-clause-shape

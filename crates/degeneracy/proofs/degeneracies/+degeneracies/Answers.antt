@@ -8,9 +8,9 @@ use Rattle.diagram_terms.proofs.Decisions.{dual_next}
 use Rattle.diagram_terms.proofs.Dimensions.{dimension_of-arrow_reg, dimension_of-arrow_sing}
 use Rattle.hashcons.specs.Contents.{arrow_at, diagram_at}
 use Rattle.diagram_terms.specs.Operations.{composite_tree}
-use Rattle.hashcons.proofs.ContentsLemmas.{Grows-refl}
+use Rattle.hashcons.proofs.OneMoreTree.{Grows-refl}
 use Rattle.hashcons.proofs.Growth.{Grows-trans}
-use Rattle.zigzag_maps.proofs.KeepLemmas.{valid_map-grows}
+use Rattle.zigzag_maps.proofs.KeptMaps.{valid_map-grows}
 use Rattle.degeneracy.specs.DegeneracyTrees.{IsDegeneracyMap, IsDegeneracyTree}
 use Rattle.degeneracy.specs.DegeneracyShapes.{HasDegenerateSings, HasDegenerateMissed, IsDegenerateWhereMissed}
 use Rattle.zigzag_maps.proofs.ValidArrows.{valid_parts, arrow_sings_len, source_dimension, target_dimension}
@@ -51,6 +51,12 @@ has_shape-returns-then-not-branch-2 t c =
     let ss = c.in_ok-sings_are_degeneracies.ensures in
     Decides-no _ _ _ _ (Grows-trans _ _ _ rs.grows ss.grows) ss.right
     (λ h. fails _ _ ss.decides c.if-not-branch-2.true (fact_after HasDegenerateSings _ _ c.args.f rs.grows v (shape.0 h).sings))
+
+pub has_shape-returns-in_err-sings_are_degeneracies : goal.has_shape-returns-in_err-sings_are_degeneracies
+has_shape-returns-in_err-sings_are_degeneracies t c =
+    let rs = c.in_ok-regs_are_degeneracies.ensures in
+    let ss = c.in_err-sings_are_degeneracies.ensures in
+    Decides-err _ _ _ _ _ (Grows-trans _ _ _ rs.grows ss.grows) ss.right c.from_residual-in_err-sings_are_degeneracies.ensures.0
 
 pub has_shape-missed_are_degeneracies-requires : goal.has_shape-missed_are_degeneracies-requires
 has_shape-missed_are_degeneracies-requires t c =

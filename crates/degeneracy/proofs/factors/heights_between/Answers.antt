@@ -4,7 +4,7 @@ use Rattle.diagram_terms.specs.Dual.{dual}
 use Rattle.diagram_terms.proofs.Duals.{dual-le-length, dual_mono}
 use Rattle.hashcons.specs.Contents.{arrow_at}
 use Rattle.degeneracy.specs.FactorTrees.{is_hit}
-use Rattle.zigzag_maps.proofs.CompositeLemmas.{monotone_heights}
+use Rattle.zigzag_maps.proofs.CompositeSlices.{monotone_heights}
 use Rattle.degeneracy.proofs.FactorsInStore.{not_hit, one_hit, none_hit, hit_more, between_more}
 use Rattle.degeneracy.proofs.factors.heights_between.Goals as goal
 use Rattle.degeneracy.proofs.factors.heights_between.Goals.{then-at-end-via-then-at-end, then-at-end-via-else-at-end+then-height-k}

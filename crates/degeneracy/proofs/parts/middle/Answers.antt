@@ -1,7 +1,7 @@
 use Rattle.std.proofs.Common.{sym, subst}
 use Rattle.diagram_terms.specs.Dimension.{IsDiagramTree}
 use Rattle.hashcons.specs.Contents.{arrow_at, diagram_at}
-use Rattle.hashcons.proofs.ContentsLemmas.{Grows-refl}
+use Rattle.hashcons.proofs.OneMoreTree.{Grows-refl}
 use Rattle.hashcons.proofs.Growth.{Makes-last, gathers-below}
 use Rattle.zigzag_maps.proofs.SliceMaps.{arrow_of_map}
 use Rattle.degeneracy.proofs.PartsInStore.{described_middle}

@@ -3,7 +3,7 @@ use Rattle.diagram_terms.specs.Operations.{composite_tree}
 use Rattle.diagram_terms.specs.Shape.{sing_at}
 use Rattle.diagram_terms.specs.Tree.{heights}
 use Rattle.hashcons.specs.Contents.{arrow_at, diagram_at}
-use Rattle.hashcons.proofs.ContentsLemmas.{Grows-refl}
+use Rattle.hashcons.proofs.OneMoreTree.{Grows-refl}
 use Rattle.degeneracy.proofs.DegeneraciesInStore.{one_id}
 use Rattle.degeneracy.proofs.PartsInStore.{lengths_of, hit_now, missed_now}
 use Rattle.degeneracy.proofs.PartsOnTrees.{parallel_sing-hit, parallel_sing-missed}

@@ -1,7 +1,7 @@
 use Rattle.std.proofs.Common.{◌∙◌}
 use Rattle.diagram_terms.specs.Shape.{sing_at}
 use Rattle.hashcons.proofs.Growth.{Grows-trans, gathers-arrow_more}
-use Rattle.zigzag_maps.proofs.IdentityLemmas.{slice_identity}
+use Rattle.zigzag_maps.proofs.IdentitySlices.{slice_identity}
 use Rattle.degeneracy.proofs.parts.singular_identities.Goals as goal
 
 pub loop-i-preserved : goal.loop-i-preserved

@@ -3,7 +3,7 @@ use Rattle.diagram_terms.specs.Dimension.{dimension_of}
 use Rattle.diagram_terms.specs.Tree.{Tree, regs}
 use Rattle.hashcons.specs.Gathers.{Gathers}
 use Rattle.hashcons.proofs.Growth.{Grows-trans, gathers-arrows_grow}
-use Rattle.zigzag_maps.proofs.KeepLemmas.{valid_map-grows}
+use Rattle.zigzag_maps.proofs.KeptMaps.{valid_map-grows}
 use Rattle.zigzag_maps.proofs.SliceMaps.{fact_after}
 use Rattle.degeneracy.specs.SplitTrees.{simple_reg, middle_tree, simple_tree, parallel_tree}
 use Rattle.degeneracy.proofs.PartsInStore.{made_parts}
@@ -58,3 +58,16 @@ returns-clause-parts c =
     (one.diagram_trees d.target v.target.of_store i) (one.arrow_trees d.arrow v.arrow i)))
     (second.grows.arrow_trees _ first.of_store ∙ first.tree ∙ (λ i. simple_tree (two.diagram_trees d.source v.source.of_store i) (two.arrow_trees d.arrow v.arrow i)))
     (second.tree ∙ (λ i. parallel_tree (three.diagram_trees d.target v.target.of_store i) (three.arrow_trees d.arrow v.arrow i)))
+
+pub returns-in_err-between-clause-grows : goal.returns-in_err-between-clause-grows
+returns-in_err-between-clause-grows c = Grows-trans _ _ _ c.in_ok-identities.ensures.grows c.in_err-between.ensures.grows
+
+pub returns-in_err-parallel-clause-grows : goal.returns-in_err-parallel-clause-grows
+returns-in_err-parallel-clause-grows c =
+    let g = Grows-trans _ _ _ (Grows-trans _ _ _ c.in_ok-identities.ensures.grows c.in_ok-between.ensures.grows) c.in_ok-simple.ensures.grows in
+    Grows-trans _ _ _ g c.in_err-parallel.ensures.grows
+
+pub returns-clause-grows : goal.returns-clause-grows
+returns-clause-grows c =
+    let g = Grows-trans _ _ _ (Grows-trans _ _ _ c.in_ok-identities.ensures.grows c.in_ok-between.ensures.grows) c.in_ok-simple.ensures.grows in
+    Grows-trans _ _ _ g c.in_ok-parallel.ensures.grows

@@ -1,5 +1,5 @@
 use Rattle.hashcons.specs.declared.id.AnyId.TheVariants as id
-use Rattle.degeneracy_tests.proofs.HeldIds.{id_of_store}
+use Rattle.store_fixtures.proofs.PlacedIds.{id_of_store}
 use Rattle.degeneracy_tests.proofs.stored.map_at.Goals as goal
 
 pub returns-clause-source : goal.returns-clause-source

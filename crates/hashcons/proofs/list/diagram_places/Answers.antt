@@ -1,12 +1,19 @@
-use Rattle.hashcons.proofs.PlaceLemmas.{diagram_stands, diagram_places-more}
+use Rattle.std.proofs.Common.{◌<◌, length, arith}
+use Rattle.hashcons.proofs.ListingPlaces.{diagram_stands, diagram_places-more}
+use Rattle.hashcons.proofs.FirstSlices.{entry_read}
 use Rattle.hashcons.proofs.list.diagram_places.Goals as goal
 
 pub place_of-requires : goal.place_of-requires
-place_of-requires c = diagram_stands c.args.order.now.keys c.args.ds.now c.loop-d.d-index c.d-item.result c.requires
-    c.loop-d-test.true c.d-item.is
+place_of-requires c =
+    let n = c.len-at-end.ensures in
+    let l : c.loop-at.at < length c.args.ds.now = omega (arith, c.loop-at-test.true) in
+    diagram_stands c.args.order.now.keys c.args.ds.now c.loop-at.at c.at.result c.requires l
+    (entry_read c.args.ds.now c.loop-at.at c.at.result l c.at.ensures)
 
-pub loop-d-preserved : goal.loop-d-preserved
-loop-d-preserved c =
+pub loop-at-preserved : goal.loop-at-preserved
+loop-at-preserved c =
+    let n = c.len-at-end.ensures in
+    let l : c.loop-at.at < length c.args.ds.now = omega (arith, c.loop-at-test.true) in
     rw c.in_ok-push.ensures.items
-    (diagram_places-more c.args.order.now.keys c.args.ds.now c.loop-d.d-index c.loop-d.places.items c.d-item.result
-    c.place_of.result c.loop-d.invariant c.loop-d-test.true c.d-item.is c.place_of.ensures)
+    (diagram_places-more c.args.order.now.keys c.args.ds.now c.loop-at.at c.loop-at.places.items c.at.result c.place_of.result
+    c.loop-at.invariant l (entry_read c.args.ds.now c.loop-at.at c.at.result l c.at.ensures) c.place_of.ensures)

@@ -1,7 +1,7 @@
 use Rattle.std.proofs.Common.{sym, subst, ◌∙◌}
 use Rattle.std.proofs.lemmas.Option.{same_Some, none-some}
 use Rattle.hashcons.specs.Listing.{IsFirstPlace}
-use Rattle.hashcons.proofs.PlaceLemmas.{found_at}
+use Rattle.hashcons.proofs.ListingPlaces.{found_at}
 use Rattle.hashcons.proofs.list.place_of.Goals as goal
 
 pub unreachable-requires : goal.unreachable-requires

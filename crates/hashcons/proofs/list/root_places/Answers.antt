@@ -1,4 +1,4 @@
-use Rattle.hashcons.proofs.PlaceLemmas.{root_stands, root_places-more}
+use Rattle.hashcons.proofs.ListingPlaces.{root_stands, root_places-more}
 use Rattle.hashcons.proofs.list.root_places.Goals as goal
 
 pub place_of-requires : goal.place_of-requires

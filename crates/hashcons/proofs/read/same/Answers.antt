@@ -1,4 +1,4 @@
-use Rattle.hashcons.proofs.IdLemmas.{same_trees}
+use Rattle.hashcons.proofs.IdsOfTrees.{same_trees}
 use Rattle.hashcons.proofs.read.same.Goals as goal
 
 pub returns-clause-trees : goal.returns-clause-trees

@@ -1,6 +1,6 @@
 use Rattle.hashcons.specs.declared.id.AnyId.TheVariants as id
-use Rattle.library_tests.proofs.GrownStores.{grown_is_store}
-use Rattle.library_tests.proofs.HeldIds.{id_of_store, diagram_place}
+use Rattle.store_fixtures.proofs.PlacedIds.{id_of_store}
+use Rattle.library_tests.proofs.PlacedDiagrams.{diagram_place}
 use Rattle.library_tests.proofs.stored.diagram_faults.Goals as goal
 
 pub plain_fault-requires-clause-diagram : goal.plain_fault-requires-clause-diagram
@@ -9,7 +9,7 @@ plain_fault-requires-clause-diagram c =
     let ids = rw c.as_slice.ensures at c.in_ok-ids.ensures.ids in
     let found = rw c.deref.ensures.value at c.in_ok-diagram.ensures in
     rw c.as_slice-2.ensures
-    (diagram_place c.put_nodes.new.self (grown_is_store _ _ c.new-store.ensures c.in_ok-ids.ensures.grows) nodes c.in_ok-document.ensures c.in_ok-ids.ids.items ids
+    (diagram_place c.put_nodes.new.self c.allocator.ensures nodes c.in_ok-document.ensures c.in_ok-ids.ids.items ids
     c.args.place c.in_ok-diagram.diagram found)
 
 pub valid-requires : goal.valid-requires

@@ -1,5 +1,5 @@
 use Rattle.hashcons.specs.declared.id.AnyId.TheVariants as id
-use Rattle.library_tests.proofs.HeldIds.{id_of_store}
+use Rattle.store_fixtures.proofs.PlacedIds.{id_of_store}
 use Rattle.library_tests.proofs.stored.map_of.Goals as goal
 
 pub returns-clause-source : goal.returns-clause-source

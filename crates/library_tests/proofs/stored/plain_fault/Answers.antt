@@ -2,7 +2,7 @@ use Rattle.std.proofs.Common.{sym, subst}
 use Rattle.std.proofs.lemmas.Result.{IfOk-weaker}
 use Rattle.diagram_terms.specs.Shape.{IsDiagram}
 use Rattle.diagram_terms.proofs.NodeShapes.{diagram_at}
-use Rattle.library_tests.proofs.HeldIds.{fault_of_tree}
+use Rattle.library_tests.proofs.PlacedDiagrams.{fault_of_tree}
 use Rattle.library_tests.proofs.stored.plain_fault.Goals as goal
 
 pub first_bad_square-requires : goal.first_bad_square-requires

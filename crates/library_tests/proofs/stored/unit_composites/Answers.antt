@@ -1,5 +1,5 @@
 use Rattle.hashcons.proofs.Growth.{Grows-trans}
-use Rattle.zigzag_maps.proofs.KeepLemmas.{valid_map-grows}
+use Rattle.zigzag_maps.proofs.KeptMaps.{valid_map-grows}
 use Rattle.library_tests.proofs.stored.unit_composites.Goals as goal
 
 pub compose-requires-clause-outer : goal.compose-requires-clause-outer

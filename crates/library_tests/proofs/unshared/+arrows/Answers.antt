@@ -1,8 +1,8 @@
 use Rattle.std.proofs.Common.{◌≤◌, ◌∙◌, ap, arith, rules, inl, inr}
 use Rattle.diagram_terms.specs.Nodes.{picked, trees_of}
 use Rattle.diagram_terms.proofs.ValuesAsTrees.{tree_of_arrow-Zero, tree_of_arrow-Zig}
-use Rattle.hashcons.proofs.FillLemmas.{arrow_here, labels_here}
-use Rattle.library_tests.proofs.PlaceLemmas.{reach, reach-above, children-reach, children_are_arrows, no_label_node, no_diagram_node, zag_here}
+use Rattle.hashcons.proofs.PlacedIds.{arrow_here, labels_here}
+use Rattle.library_tests.proofs.NodePlaces.{reach, reach-above, children-reach, children_are_arrows, no_label_node, no_diagram_node, zag_here}
 use Rattle.library_tests.proofs.unshared.+arrows.Goals as goal
 
 pub unshared_arrow-unshared_arrows-requires : goal.unshared_arrow-unshared_arrows-requires

@@ -1,7 +1,7 @@
 use Rattle.std.proofs.Common.{◌≡◌, ◌+◌, ◌*◌, take}
 use Rattle.diagram_terms.specs.Nodes.{picked, trees_of}
 use Rattle.diagram_terms.specs.Values.{trees_of_arrows}
-use Rattle.library_tests.proofs.PlaceLemmas.{reach}
+use Rattle.library_tests.proofs.NodePlaces.{reach}
 use Rattle.library_tests.proofs.unshared.+arrows.Given as goal
 
 abbrev pub decreases-unshared_arrow : goal.decreases-unshared_arrow

@@ -1,8 +1,8 @@
 use Rattle.std.proofs.Common.{◌≤◌, ◌∙◌, ap, arith, inl, inr}
 use Rattle.diagram_terms.specs.Nodes.{picked, trees_of}
 use Rattle.diagram_terms.proofs.ValuesAsTrees.{tree_of_diagram-Zero, tree_of_diagram-Zig}
-use Rattle.hashcons.proofs.FillLemmas.{diagram_here, label_here}
-use Rattle.library_tests.proofs.PlaceLemmas.{reach, reach-above, children-reach, children_are_arrows, children_are_diagrams, no_labels_node, no_arrow_node, zig_here}
+use Rattle.hashcons.proofs.PlacedIds.{diagram_here, label_here}
+use Rattle.library_tests.proofs.NodePlaces.{reach, reach-above, children-reach, children_are_arrows, children_are_diagrams, no_labels_node, no_arrow_node, zig_here}
 use Rattle.library_tests.proofs.unshared.+diagrams.Goals as goal
 
 pub unshared-unshared_diagrams-requires : goal.unshared-unshared_diagrams-requires

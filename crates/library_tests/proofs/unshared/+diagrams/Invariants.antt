@@ -1,7 +1,7 @@
 use Rattle.std.proofs.Common.{◌≡◌, ◌+◌, ◌*◌, take}
 use Rattle.diagram_terms.specs.Nodes.{picked, trees_of}
 use Rattle.diagram_terms.specs.Values.{trees_of_diagrams}
-use Rattle.library_tests.proofs.PlaceLemmas.{reach}
+use Rattle.library_tests.proofs.NodePlaces.{reach}
 use Rattle.library_tests.proofs.unshared.+diagrams.Given as goal
 
 abbrev pub decreases-unshared : goal.decreases-unshared

@@ -1,10 +1,7 @@
 use Rattle.std.proofs.Common.{sym, ap, option_map, ◌∙◌}
 use Rattle.diagram_terms.specs.declared.place.Place.{Place}
 use Rattle.hashcons.specs.Contents.{diagram_at}
-use Rattle.hashcons.proofs.FoundStays.{none_found}
-use Rattle.zigzag_maps.specs.Walks.{PassesTests}
-use Rattle.plain_maps.specs.Plainness.{plain_tests_in}
-use Rattle.plain_maps.proofs.LooseLemmas.{loose_leg_is, no_leg_is_loose, legs_walk}
+use Rattle.plain_maps.proofs.LooseTests.{loose_leg_is, no_leg_is_loose, legs_walk}
 use Rattle.plain_maps.proofs.loose.first_loose.Goals as goal
 
 pub returns-clause-exact : goal.returns-clause-exact
@@ -20,6 +17,3 @@ returns-clause-none c =
 
 pub first_in-requires-clause-law : goal.first_in-requires-clause-law
 first_in-requires-clause-law c = legs_walk
-
-pub first_in-requires-clause-passed : goal.first_in-requires-clause-passed
-first_in-requires-clause-passed c = none_found _ (PassesTests plain_tests_in) _ c.new-passed.ensures

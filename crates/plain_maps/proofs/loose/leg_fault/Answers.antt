@@ -1,5 +1,5 @@
 use Rattle.std.proofs.Common.{Some, ap, ◌∙◌}
-use Rattle.plain_maps.proofs.LooseLemmas.{leg_is_plain, leg_is_loose}
+use Rattle.plain_maps.proofs.LooseTests.{leg_is_plain, leg_is_loose}
 use Rattle.plain_maps.proofs.loose.leg_fault.Goals as goal
 
 pub returns-then-branch-clause-exact : goal.returns-then-branch-clause-exact

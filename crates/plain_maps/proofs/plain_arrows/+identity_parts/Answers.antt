@@ -6,7 +6,7 @@ use Rattle.hashcons.specs.declared.id.AnyId.TheVariants as id
 use Rattle.hashcons.specs.Contents.{arrow_at}
 use Rattle.hashcons.proofs.FoundStays.{one_more_found}
 use Rattle.plain_maps.specs.Plainness.{IsIdentityTree, HasIdentitySings}
-use Rattle.plain_maps.proofs.PlainLemmas.{identity_decides, identity_heights_fail, identity_regs_fail, sings_len, arrow_reg_slice, arrow_sing_slice, one_fails, all_pass}
+use Rattle.plain_maps.proofs.PlainSlices.{identity_decides, identity_heights_fail, identity_regs_fail, sings_len, arrow_reg_slice, arrow_sing_slice, one_fails, all_pass}
 use Rattle.plain_maps.proofs.plain_arrows.+identity_parts.Goals as goal
 
 pub has_identity_parts-returns-then-not-has_identity_heights-clause-exact : goal.has_identity_parts-returns-then-not-has_identity_heights-clause-exact
@@ -90,6 +90,7 @@ is_identity_once-returns-in_err-keep-clause-kept t c =
     record {
       arrows = made.kept.arrows;
       identities = one_more_found _ IsIdentityTree _ _ _ made.kept.identities c.keep.ensures c.requires.arrow.of_store (made.exact.0 c.if-not-branch.false);
+      passed = made.kept.passed;
     }
 
 pub is_identity_once-returns-clause-kept : goal.is_identity_once-returns-clause-kept
@@ -98,4 +99,5 @@ is_identity_once-returns-clause-kept t c =
     record {
       arrows = made.kept.arrows;
       identities = one_more_found _ IsIdentityTree _ _ _ made.kept.identities c.keep.ensures c.requires.arrow.of_store (made.exact.0 c.if-not-branch.false);
+      passed = made.kept.passed;
     }

@@ -6,7 +6,7 @@ use Rattle.hashcons.specs.declared.id.AnyId.TheVariants as id
 use Rattle.hashcons.specs.Contents.{arrow_at}
 use Rattle.hashcons.proofs.FoundStays.{one_more_found}
 use Rattle.plain_maps.specs.Plainness.{IsPlainTree, HasPlainSings}
-use Rattle.plain_maps.proofs.PlainLemmas.{plain_zero, plain_decides, plain_regs_fail, sings_len, arrow_sing_slice, one_fails, all_pass}
+use Rattle.plain_maps.proofs.PlainSlices.{plain_zero, plain_decides, plain_regs_fail, sings_len, arrow_sing_slice, one_fails, all_pass}
 use Rattle.plain_maps.proofs.plain_arrows.+plain_parts.Goals as goal
 
 pub has_plain_parts-returns-then-dim-eq0-clause-exact : goal.has_plain_parts-returns-then-dim-eq0-clause-exact
@@ -62,6 +62,7 @@ is_plain_once-returns-in_err-keep-clause-kept t c =
     record {
       arrows = one_more_found _ IsPlainTree _ _ _ made.kept.arrows c.keep.ensures c.requires.arrow.of_store (made.exact.0 c.if-not-branch.false);
       identities = made.kept.identities;
+      passed = made.kept.passed;
     }
 
 pub is_plain_once-returns-clause-kept : goal.is_plain_once-returns-clause-kept
@@ -70,4 +71,5 @@ is_plain_once-returns-clause-kept t c =
     record {
       arrows = one_more_found _ IsPlainTree _ _ _ made.kept.arrows c.keep.ensures c.requires.arrow.of_store (made.exact.0 c.if-not-branch.false);
       identities = made.kept.identities;
+      passed = made.kept.passed;
     }

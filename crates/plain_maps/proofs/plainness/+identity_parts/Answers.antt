@@ -3,7 +3,7 @@ use Rattle.diagram_terms.specs.Tree.{regs, sings}
 use Rattle.diagram_terms.specs.Shape.{reg_at, sing_at}
 use Rattle.hashcons.specs.Contents.{arrow_at}
 use Rattle.plain_maps.specs.Plainness.{IsIdentityTree}
-use Rattle.plain_maps.proofs.PlainLemmas.{identity_decides, identity_heights_fail, identity_regs_fail, sings_len, has_reg, arrow_reg_slice, arrow_sing_slice, one_fails, all_pass}
+use Rattle.plain_maps.proofs.PlainSlices.{identity_decides, identity_heights_fail, identity_regs_fail, sings_len, has_reg, arrow_reg_slice, arrow_sing_slice, one_fails, all_pass}
 use Rattle.plain_maps.proofs.plainness.+identity_parts.Goals as goal
 
 pub is_identity-returns-then-not-has_identity_heights : goal.is_identity-returns-then-not-has_identity_heights

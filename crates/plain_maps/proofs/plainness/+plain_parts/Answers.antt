@@ -3,7 +3,7 @@ use Rattle.diagram_terms.specs.Tree.{sings}
 use Rattle.diagram_terms.specs.Shape.{sing_at}
 use Rattle.hashcons.specs.Contents.{arrow_at}
 use Rattle.plain_maps.specs.Plainness.{IsPlainTree}
-use Rattle.plain_maps.proofs.PlainLemmas.{plain_zero, plain_decides, plain_regs_fail, sings_len, arrow_sing_slice, one_fails, all_pass}
+use Rattle.plain_maps.proofs.PlainSlices.{plain_zero, plain_decides, plain_regs_fail, sings_len, arrow_sing_slice, one_fails, all_pass}
 use Rattle.plain_maps.proofs.plainness.+plain_parts.Goals as goal
 
 pub is_plain-returns-then-dim-eq0 : goal.is_plain-returns-then-dim-eq0

@@ -1,7 +1,7 @@
 use Rattle.std.proofs.Common.{◌∙◌, sym}
 use Rattle.diagram_terms.proofs.Decisions.{same_label_decides}
 use Rattle.hashcons.specs.Contents.{arrow_at}
-use Rattle.plain_maps.proofs.PlainLemmas.{identity-ends}
+use Rattle.plain_maps.proofs.PlainSlices.{identity-ends}
 use Rattle.plain_maps.proofs.plainness.has_equal_ends.Goals as goal
 
 pub returns : goal.returns

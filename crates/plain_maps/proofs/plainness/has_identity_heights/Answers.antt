@@ -1,7 +1,7 @@
 use Rattle.std.proofs.Common.{refl, arith}
 use Rattle.diagram_terms.specs.Tree.{heights}
 use Rattle.hashcons.specs.Contents.{arrow_at}
-use Rattle.plain_maps.proofs.PlainLemmas.{heights_upto, upto_heights}
+use Rattle.plain_maps.proofs.PlainSlices.{heights_upto, upto_heights}
 use Rattle.plain_maps.proofs.plainness.has_identity_heights.Goals as goal
 
 pub returns-then-height-i : goal.returns-then-height-i

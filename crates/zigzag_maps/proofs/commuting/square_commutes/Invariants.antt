@@ -1,7 +1,7 @@
 use Rattle.std.proofs.Common.{◌≡◌, ℕ, ◌<◌, ◌≤◌}
 use Rattle.hashcons.specs.Contents.{Grows, IsArrowOf, diagram_at, arrow_at}
-use Rattle.zigzag_maps.specs.Visits.{IsValidSlicewise, edge_before}
-use Rattle.zigzag_maps.proofs.EdgeLemmas.{edge_at}
+use Rattle.zigzag_maps.specs.Visits.{IsValidSlicewise, enter_edge}
+use Rattle.zigzag_maps.proofs.SquareEdges.{edge_at}
 use Rattle.zigzag_maps.proofs.commuting.square_commutes.Given as goal
 
 abbrev pub invariant-loop-i : goal.invariant-loop-i
@@ -13,5 +13,5 @@ invariant-loop-i l = record {
       ≡ edge_at (diagram_at l.fn.store l.f.source) (diagram_at l.fn.store l.f.target) (arrow_at l.fn.store l.f.arrow) l.fibre.over l.fibre.from l.i;
   agree : (i : ℕ) → l.fibre.from ≤ i → i < l.i
       → edge_at (diagram_at l.fn.store l.f.source) (diagram_at l.fn.store l.f.target) (arrow_at l.fn.store l.f.arrow) l.fibre.over l.fibre.from i
-      ≡ edge_before (diagram_at l.fn.store l.f.source) (arrow_at l.fn.store l.f.arrow) i;
+      ≡ enter_edge (diagram_at l.fn.store l.f.source) (arrow_at l.fn.store l.f.arrow) i;
 }

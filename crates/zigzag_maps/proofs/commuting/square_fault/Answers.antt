@@ -5,10 +5,10 @@ use Rattle.diagram_terms.specs.Places.{here, first_failure}
 use Rattle.diagram_terms.specs.Tree.{heights, sings}
 use Rattle.zigzag_maps.proofs.Visiting.{visit_start, visit_fails, visit_passes}
 use Rattle.hashcons.specs.Contents.{diagram_at, arrow_at}
-use Rattle.hashcons.proofs.ContentsLemmas.{Grows-refl}
+use Rattle.hashcons.proofs.OneMoreTree.{Grows-refl}
 use Rattle.hashcons.proofs.Growth.{Grows-trans}
 use Rattle.zigzag_maps.specs.Visits.{square_tests, square_holds}
-use Rattle.zigzag_maps.proofs.CompositeLemmas.{zero_dual}
+use Rattle.zigzag_maps.proofs.CompositeSlices.{zero_dual}
 use Rattle.zigzag_maps.proofs.CompositeSteps.{dual_rises}
 use Rattle.zigzag_maps.proofs.EdgeSteps.{has_edges, slicewise-grows}
 use Rattle.zigzag_maps.proofs.FaultSteps.{map_trees}

@@ -3,9 +3,9 @@ use Rattle.diagram_terms.specs.Dimension.{dimension_of, IsArrowTree}
 use Rattle.diagram_terms.specs.Dual.{dual}
 use Rattle.diagram_terms.specs.Tree.{heights, regs, sings}
 use Rattle.hashcons.specs.Contents.{arrow_at}
-use Rattle.hashcons.proofs.ContentsLemmas.{Grows-refl}
+use Rattle.hashcons.proofs.OneMoreTree.{Grows-refl}
 use Rattle.hashcons.proofs.Growth.{Grows-trans, made-children, composite-made, Makes-before, Makes-last, gathers-none, makes-more}
-use Rattle.zigzag_maps.proofs.CompositeLemmas.{IsArrowTree-composite_tree, zero_dual, arrow-regs, composable-dimension, composable-inner_sings}
+use Rattle.zigzag_maps.proofs.CompositeSlices.{IsArrowTree-composite_tree, zero_dual, arrow-regs, composable-dimension, composable-inner_sings}
 use Rattle.zigzag_maps.proofs.CompositeSteps.{reg_pair, sing_pair, reg_made, sing_made, reg_dim, sing_dim, dual_within, dual_rises, described_composite}
 use Rattle.zigzag_maps.proofs.composites.+composites.Goals as goal
 

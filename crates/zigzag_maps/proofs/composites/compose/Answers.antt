@@ -1,7 +1,7 @@
 use Rattle.std.proofs.Common.{sym, subst}
 use Rattle.hashcons.specs.Contents.{diagram_at, arrow_at}
 use Rattle.diagram_terms.specs.ValidTrees.{IsArrowBetween}
-use Rattle.zigzag_maps.proofs.CompositeLemmas.{composable_between}
+use Rattle.zigzag_maps.proofs.CompositeSlices.{composable_between}
 use Rattle.zigzag_maps.proofs.ValidMaps.{composite_is_valid}
 use Rattle.zigzag_maps.proofs.composites.compose.Goals as goal
 

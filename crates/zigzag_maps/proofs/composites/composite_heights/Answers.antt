@@ -1,7 +1,7 @@
 use Rattle.std.proofs.Common.{sym, ◌∙◌, ap, get_or, arith}
 use Rattle.diagram_terms.specs.Tree.{heights}
 use Rattle.hashcons.specs.Contents.{arrow_at}
-use Rattle.zigzag_maps.proofs.CompositeLemmas.{after-none, after-more}
+use Rattle.zigzag_maps.proofs.CompositeSlices.{after-none, after-more}
 use Rattle.zigzag_maps.proofs.composites.composite_heights.Goals as goal
 
 pub loop-i-init : goal.loop-i-init

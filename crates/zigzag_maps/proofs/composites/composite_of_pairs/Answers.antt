@@ -1,9 +1,9 @@
 use Rattle.diagram_terms.proofs.Dimensions.{arrow_tree}
 use Rattle.diagram_terms.proofs.Shapes.{IsArrow-ends}
 use Rattle.std.proofs.Common.{sym}
-use Rattle.hashcons.proofs.ContentsLemmas.{Grows-refl}
+use Rattle.hashcons.proofs.OneMoreTree.{Grows-refl}
 use Rattle.hashcons.proofs.Growth.{Makes-last}
-use Rattle.zigzag_maps.proofs.CompositeLemmas.{composite_tree-ends}
+use Rattle.zigzag_maps.proofs.CompositeSlices.{composite_tree-ends}
 use Rattle.zigzag_maps.proofs.composites.composite_of_pairs.Goals as goal
 
 pub put_arrow-requires-clause-shape : goal.put_arrow-requires-clause-shape

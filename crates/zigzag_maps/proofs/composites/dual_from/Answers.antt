@@ -1,5 +1,5 @@
 use Rattle.std.proofs.Common.{arith}
-use Rattle.zigzag_maps.proofs.CompositeLemmas.{monotone_heights, dual_more, dual_done}
+use Rattle.zigzag_maps.proofs.CompositeSlices.{monotone_heights, dual_more, dual_done}
 use Rattle.zigzag_maps.proofs.composites.dual_from.Goals as goal
 
 pub loop-at-preserved : goal.loop-at-preserved

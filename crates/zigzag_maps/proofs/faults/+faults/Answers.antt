@@ -8,35 +8,27 @@ use Rattle.diagram_terms.proofs.Dimensions.{arrow_dimension}
 use Rattle.diagram_terms.proofs.Duals.{dual-le-length}
 use Rattle.zigzag_maps.proofs.Visiting.{visit_start, visit_fails, visit_passes, visit_last}
 use Rattle.hashcons.specs.Contents.{diagram_at, arrow_at}
-use Rattle.hashcons.proofs.ContentsLemmas.{Grows-refl}
+use Rattle.hashcons.proofs.OneMoreTree.{Grows-refl}
 use Rattle.hashcons.proofs.Growth.{Grows-trans}
 use Rattle.zigzag_maps.specs.Visits.{reg_tests, sing_tests, square_tests}
-use Rattle.zigzag_maps.proofs.CompositeLemmas.{zero_dual}
+use Rattle.zigzag_maps.proofs.CompositeSlices.{zero_dual}
 use Rattle.zigzag_maps.proofs.CompositeSteps.{dual_rises}
 use Rattle.zigzag_maps.proofs.EdgeSteps.{slicewise-grows}
 use Rattle.zigzag_maps.proofs.FaultSteps.{map_at-grows, map_trees, fits-grows, map_lengths, reg_slice, reg_found, sing_slice, sing_found, valid_map_passes, valid_map_from}
-use Rattle.zigzag_maps.proofs.VisitLemmas.{not_fit, fits_from, reg_fails, sing_fails, squares_decide, slices_valid}
+use Rattle.zigzag_maps.proofs.TestsOfArrows.{not_fit, fits_from, reg_fails, sing_fails, squares_decide, slices_valid}
 use Rattle.zigzag_maps.proofs.faults.+faults.Goals as goal
 
 -- ---- an arrow, worked out once
 
-pub map_fault-returns-then-has_valid_map-clause-exact : goal.map_fault-returns-then-has_valid_map-clause-exact
-map_fault-returns-then-has_valid_map-clause-exact t c =
-    sym (valid_map_passes c.args.store.now c.args.f.now (c.has_valid_map.ensures c.args.store.now c.requires.kept c.if-has_valid_map.true))
+pub map_fault-returns-then-known_valid_map-clause-exact : goal.map_fault-returns-then-known_valid_map-clause-exact
+map_fault-returns-then-known_valid_map-clause-exact t c =
+    sym (valid_map_passes c.args.store.now c.args.f.now (c.known_valid_map.ensures.right c.if-known_valid_map.true))
 
-pub map_fault-returns-in_err-keep_valid_map-clause-kept : goal.map_fault-returns-in_err-keep_valid_map-clause-kept
-map_fault-returns-in_err-keep_valid_map-clause-kept t c =
+pub map_fault-note_valid_map-requires : goal.map_fault-note_valid_map-requires
+map_fault-note_valid_map-requires t c =
     let made = c.in_ok-place.ensures in
-    c.keep_valid_map.ensures _ made.kept
-    (valid_map_from c.fault_anew.new.store c.args.dim c.args.f.now (map_at-grows _ _ _ _ made.grows c.requires.map)
-    (map_trees (λ s t f. first_failure (tests_between s t f)) _ _ _ _ made.grows c.requires.map ∙ sym made.exact ∙ c.in_default.is))
-
-pub map_fault-returns-clause-kept : goal.map_fault-returns-clause-kept
-map_fault-returns-clause-kept t c =
-    let made = c.in_ok-place.ensures in
-    c.keep_valid_map.ensures _ made.kept
-    (valid_map_from c.fault_anew.new.store c.args.dim c.args.f.now (map_at-grows _ _ _ _ made.grows c.requires.map)
-    (map_trees (λ s t f. first_failure (tests_between s t f)) _ _ _ _ made.grows c.requires.map ∙ sym made.exact ∙ c.in_default.is))
+    valid_map_from c.fault_anew.new.store c.args.dim c.args.f.now (map_at-grows _ _ _ _ made.grows c.requires.map)
+    (map_trees (λ s t f. first_failure (tests_between s t f)) _ _ _ _ made.grows c.requires.map ∙ sym made.exact ∙ c.in_default.is)
 
 -- ---- an arrow, part by part
 
@@ -99,7 +91,6 @@ regular_fault-loop-j-init t c =
     let lengths = map_lengths old c.args.dim m c.requires.above c.requires.map in
     record {
       grows = Grows-refl _;
-      kept = c.requires.kept;
       map = c.requires.map;
       below = zero_dual _ (c.requires.store.arrows _ c.requires.map.arrow) (omega (arith, lengths.dim));
       rest = visit_start (reg_tests (diagram_at old m.source) (diagram_at old m.target) (arrow_at old m.arrow)) (suc (length (sings (diagram_at old m.target))));
@@ -115,6 +106,9 @@ regular_fault-returns-in-Some-clause-exact t c =
     sym (visit_fails (reg_tests (diagram_at old m.source) (diagram_at old m.target) (arrow_at old m.arrow)) (suc (length (sings (diagram_at old m.target)))) j c.in-Some.place (omega arith)
     (sym same ∙ sym c.in_ok-place.ensures.exact ∙ c.in-Some.is))
     ∙ inv.rest
+
+pub regular_fault-dual_from-below-requires-clause-of_store : goal.regular_fault-dual_from-below-requires-clause-of_store
+regular_fault-dual_from-below-requires-clause-of_store t c = c.in_ok-place.ensures.grows.arrows c.args.f.now.arrow c.loop-j.invariant.map.arrow
 
 pub regular_fault-dual_from-below-requires-clause-above : goal.regular_fault-dual_from-below-requires-clause-above
 regular_fault-dual_from-below-requires-clause-above t c =
@@ -138,7 +132,6 @@ regular_fault-loop-j-preserved t c =
     let same = map_trees (λ s t f. first_failure (reg_tests s t f j)) old c.loop-j.store c.args.dim m inv.grows c.requires.map in
     record {
       grows = grows;
-      kept = made.kept;
       map = map_at-grows _ _ _ _ grows c.requires.map;
       below = c.dual_from-below.ensures ∙ ap (λ u. dual (heights u) (j + 1)) (grows.arrow_trees m.arrow c.requires.map.arrow);
       rest = sym (visit_passes (reg_tests (diagram_at old m.source) (diagram_at old m.target) (arrow_at old m.arrow)) (suc (length (sings (diagram_at old m.target)))) j (omega arith)
@@ -178,7 +171,7 @@ regular_slice_fault-map_fault-requires t c = (
   (
     reg_slice c.args.store.now c.args.f.now (record { source = c.reg.result; target = c.reg-2.result; arrow = c.arrow_reg.result }) c.reg.ensures.of_store c.reg-2.ensures.of_store c.arrow_reg.ensures.of_store
         c.args.dim c.args.j c.args.below c.requires.above c.requires.map c.requires.fits c.requires.within c.requires.below c.reg.ensures.tree c.reg-2.ensures.tree c.arrow_reg.ensures.tree,
-    (c.requires.kept, c.requires.store),
+    c.requires.store,
   ),
 )
 
@@ -225,7 +218,7 @@ singular_fault-map_fault-requires t c =
       (
         sing_slice c.loop-i.store c.args.f.now (record { source = c.sing.result; target = c.sing-in-loop-i.result; arrow = c.arrow_sing.result }) c.sing.ensures.of_store c.sing-in-loop-i.ensures.of_store c.arrow_sing.ensures.of_store
             c.args.dim c.loop-i.i c.height.result c.requires.above inv.map fits (omega arith) c.height.ensures c.sing.ensures.tree c.sing-in-loop-i.ensures.tree c.arrow_sing.ensures.tree,
-        (inv.kept, inv.grows.store c.requires.store),
+        inv.grows.store c.requires.store,
       ),
     )
 
@@ -255,7 +248,6 @@ singular_fault-loop-i-preserved t c =
     let same = map_trees (λ s t f. first_failure (sing_tests s t f i)) old c.loop-i.store c.args.dim m inv.grows c.requires.map in
     record {
       grows = grows;
-      kept = made.kept;
       map = map_at-grows _ _ _ _ grows c.requires.map;
       rest = sym (visit_passes (sing_tests (diagram_at old m.source) (diagram_at old m.target) (arrow_at old m.arrow)) (length (sings (diagram_at old m.source))) i (omega arith)
           (sym same ∙ sym is ∙ sym c.in_ok-place.ensures ∙ c.in_default.is))

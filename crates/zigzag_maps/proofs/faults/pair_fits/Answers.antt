@@ -3,7 +3,7 @@ use Rattle.diagram_terms.specs.declared.place.End.TheVariants as at_end
 use Rattle.diagram_terms.specs.FaultsOnTrees.{tests_between}
 use Rattle.diagram_terms.specs.Places.{here}
 use Rattle.diagram_terms.proofs.Dimensions.{diagram_dimension, arrow_dimension}
-use Rattle.zigzag_maps.proofs.VisitLemmas.{tests_between-ends}
+use Rattle.zigzag_maps.proofs.TestsOfArrows.{tests_between-ends}
 use Rattle.zigzag_maps.proofs.faults.pair_fits.Goals as goal
 
 pub pair-requires-clause-zero : goal.pair-requires-clause-zero

@@ -6,9 +6,9 @@ use Rattle.diagram_terms.specs.Shape.{reg_at, sing_at}
 use Rattle.diagram_terms.proofs.Dimensions.{arrow_tree, dimension_of-sing_at}
 use Rattle.diagram_terms.proofs.Shapes.{IsArrow-ends}
 use Rattle.hashcons.specs.Contents.{diagram_at}
-use Rattle.hashcons.proofs.ContentsLemmas.{Grows-refl}
+use Rattle.hashcons.proofs.OneMoreTree.{Grows-refl}
 use Rattle.hashcons.proofs.Growth.{Grows-trans, identity-made, Makes-before, Makes-last, makes-more}
-use Rattle.zigzag_maps.proofs.IdentityLemmas.{identity_tree-point, described_identity, slice_identity, IsArrowTree-identity_tree}
+use Rattle.zigzag_maps.proofs.IdentitySlices.{identity_tree-point, described_identity, slice_identity, IsArrowTree-identity_tree}
 use Rattle.zigzag_maps.proofs.identities.+identities.Goals as goal
 
 pub identity_anew-put_arrow-requires-clause-shape :

@@ -4,7 +4,7 @@ use Rattle.diagram_terms.specs.Dual.{dual}
 use Rattle.diagram_terms.specs.Tree.{heights}
 use Rattle.diagram_terms.proofs.Duals.{dual-le-length, lt-dual, dual-lt}
 use Rattle.hashcons.specs.Contents.{arrow_at}
-use Rattle.zigzag_maps.proofs.CompositeLemmas.{monotone_heights}
+use Rattle.zigzag_maps.proofs.CompositeSlices.{monotone_heights}
 use Rattle.zigzag_maps.proofs.slices.dual_of.Goals as goal
 
 pub loop-low-init : goal.loop-low-init

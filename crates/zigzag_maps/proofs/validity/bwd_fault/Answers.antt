@@ -4,7 +4,7 @@ use Rattle.diagram_terms.specs.FaultsOnTrees.{tests_between}
 use Rattle.diagram_terms.specs.Shape.{reg_at}
 use Rattle.hashcons.specs.Contents.{Contents, diagram_at}
 use Rattle.diagram_terms.specs.Places.{first_failure}
-use Rattle.zigzag_maps.proofs.ValidityLemmas.{legs_len}
+use Rattle.zigzag_maps.proofs.TestsByParts.{legs_len}
 use Rattle.zigzag_maps.proofs.ValiditySteps.{bwd_leg}
 use Rattle.zigzag_maps.proofs.validity.bwd_fault.Goals as goal
 

@@ -2,7 +2,7 @@ use Rattle.std.proofs.Common.{◌≡◌, IfOk, Option, subst, arith}
 use Rattle.diagram_terms.specs.declared.place.Place.{Place}
 use Rattle.diagram_terms.specs.FaultsOnTrees.{tests_between}
 use Rattle.diagram_terms.specs.Places.{first_failure}
-use Rattle.zigzag_maps.proofs.ValidityLemmas.{legs_len}
+use Rattle.zigzag_maps.proofs.TestsByParts.{legs_len}
 use Rattle.zigzag_maps.proofs.ValiditySteps.{fwd_leg}
 use Rattle.zigzag_maps.proofs.validity.fwd_fault.Goals as goal
 

@@ -5,30 +5,16 @@ use Rattle.diagram_terms.specs.Shape.{reg_at, sing_at}
 use Rattle.diagram_terms.specs.Tree.{regs}
 use Rattle.diagram_terms.proofs.NextSteps.{part_fails, part_passes, passed-more, none_in_part}
 use Rattle.hashcons.specs.Contents.{IsDiagramOf, diagram_at}
-use Rattle.hashcons.specs.declared.id.AnyId.TheVariants as id
-use Rattle.hashcons.proofs.FoundStays.{found-grows, one_more_found}
 use Rattle.hashcons.proofs.Growth.{Grows-trans}
 use Rattle.zigzag_maps.specs.Walks.{PassesTests, tests_in_part, tests_to_part}
 use Rattle.zigzag_maps.proofs.ValiditySteps.{reg_slice, sing_slice}
-use Rattle.zigzag_maps.proofs.WalkLemmas.{before_legs, regs_len}
+use Rattle.zigzag_maps.proofs.SlicesBeforeLegs.{before_legs, regs_len}
 use Rattle.zigzag_maps.proofs.walk.+walks.Goals as goal
 
-pub first_in-returns-then-has-clause-exact : goal.first_in-returns-then-has-clause-exact
-first_in-returns-then-has-clause-exact g t c = c.requires.passed.are (id.Diagram c.args.d) (c.has.ensures c.if-has.true)
-
-pub first_in-returns-in_err-keep-clause-passed : goal.first_in-returns-in_err-keep-clause-passed
-first_in-returns-in_err-keep-clause-passed g t c =
+pub first_in-pass-requires-clause-passes : goal.first_in-pass-requires-clause-passes
+first_in-pass-requires-clause-passes g t c =
     let made = c.in_ok-place.ensures in
-    let same = made.grows.diagram_trees c.args.d c.requires.diagram.of_store in
-    one_more_found _ (PassesTests g.W.Walk.tests) _ _ _ made.passed c.keep.ensures (made.grows.diagrams c.args.d c.requires.diagram.of_store)
-    (subst (PassesTests g.W.Walk.tests) (sym same) (sym c.in_default.is ∙ made.exact))
-
-pub first_in-returns-clause-passed : goal.first_in-returns-clause-passed
-first_in-returns-clause-passed g t c =
-    let made = c.in_ok-place.ensures in
-    let same = made.grows.diagram_trees c.args.d c.requires.diagram.of_store in
-    one_more_found _ (PassesTests g.W.Walk.tests) _ _ _ made.passed c.keep.ensures (made.grows.diagrams c.args.d c.requires.diagram.of_store)
-    (subst (PassesTests g.W.Walk.tests) (sym same) (sym c.in_default.is ∙ made.exact))
+    subst (PassesTests g.W.Walk.tests) (sym (made.grows.diagram_trees c.args.d c.requires.diagram.of_store)) (sym c.in_default.is ∙ made.exact)
 
 pub first_in_parts-returns-in-Some-2-clause-exact : goal.first_in_parts-returns-in-Some-2-clause-exact
 first_in_parts-returns-in-Some-2-clause-exact g t c =
@@ -51,7 +37,6 @@ first_in_parts-loop-next-preserved g t c =
     (inv.grows.diagram_trees c.args.d c.requires.diagram.of_store) found.exact in
     record {
       right = found.right;
-      passed = found.passed;
       grows = Grows-trans _ _ _ inv.grows found.grows;
       leads = c.next_step-next.ensures.leads;
       before = rw (c.next_step-next.ensures.regs, c.next_step-next.ensures.sings) (passed-more (tests_in_part g.W.Walk.tests g.W.Walk.legs u) n c.in-Some.step
@@ -77,7 +62,7 @@ first_at-first_in-requires g t c κs within =
     let slice = reg_slice (g.S.Held.contents c.args.store.now) c.args.d c.reg-slice.result of_store c.args.dim c.in-R.j c.requires.above c.requires.diagram
     (subst (LeadsIn _) c.in-R.is c.requires.leads) tree
     in
-    (search rules, (search rules, (search rules, (c.requires.law, (slice, (c.requires.right, (c.requires.passed, c.requires.store)))))))
+    (search rules, (search rules, (search rules, (c.requires.law, (slice, (c.requires.right, c.requires.store))))))
 
 pub first_at-first_in-requires-in-S : goal.first_at-first_in-requires-in-S
 first_at-first_in-requires-in-S g t c κs within =
@@ -86,11 +71,8 @@ first_at-first_in-requires-in-S g t c κs within =
     let slice = sing_slice (g.S.Held.contents c.args.store.now) c.args.d c.sing-slice.result of_store c.args.dim c.in-S.i c.requires.above c.requires.diagram
     (subst (LeadsIn _) c.in-S.is c.requires.leads) tree
     in
-    (search rules, (search rules, (search rules, (c.requires.law, (slice, (c.requires.right, (c.requires.passed, c.requires.store)))))))
+    (search rules, (search rules, (search rules, (c.requires.law, (slice, (c.requires.right, c.requires.store))))))
 
 pub first_at-leg-requires-clause-passed : goal.first_at-leg-requires-clause-passed
 first_at-leg-requires-clause-passed g t c =
     before_legs (tests_in_part g.W.Walk.tests g.W.Walk.legs (diagram_at (g.S.Held.contents c.args.store.now) c.args.d)) _ c.args.step c.requires.leads c.in_default.not-R c.in_default.not-S c.requires.before
-
-pub first_at-returns-in_default-clause-passed : goal.first_at-returns-in_default-clause-passed
-first_at-returns-in_default-clause-passed g t c = found-grows _ _ _ _ c.leg.ensures.grows c.requires.passed

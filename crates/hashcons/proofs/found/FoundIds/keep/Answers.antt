@@ -1,8 +1,7 @@
-use Rattle.std.proofs.Common.{◌≡◌, ◌⊎◌, sym, inl, inr, refl}
-use Rattle.hashcons.specs.declared.id.AnyId.{AnyId}
+use Rattle.std.proofs.Common.{◌≡◌, ◌⊎◌, inl, inr, refl}
 use Rattle.hashcons.specs.FoundIds.{id_eq, IsFound}
 use Rattle.hashcons.proofs.FoundStays.{set_more}
-use Rattle.hashcons.proofs.IdLemmas.{id_decides}
+use Rattle.hashcons.proofs.IdsOfTrees.{id_decides}
 use Rattle.hashcons.proofs.found.FoundIds.keep.Goals as goal
 
 pub returns : goal.returns

@@ -16,6 +16,6 @@ decreases-visit_slices l = 3 * dimension_of (arrow_at l.self.now l.a) + 1
 abbrev pub decreases-visit_arrows : goal.decreases-visit_arrows
 decreases-visit_arrows l = 3 * first_dimension l.self.now.arrows l.arrows.now + 3
 
-abbrev pub invariant-visit_arrows-loop-a : goal.invariant-visit_arrows-loop-a
-invariant-visit_arrows-loop-a l =
-    Visits l.self l.fn.order.keys l.order.keys (flat_map completions (picked l.self.arrows (take l.a-index l.arrows)))
+abbrev pub invariant-visit_arrows-loop-at : goal.invariant-visit_arrows-loop-at
+invariant-visit_arrows-loop-at l =
+    Visits l.self l.fn.order.keys l.order.keys (flat_map completions (picked l.self.arrows (take l.at l.arrows)))

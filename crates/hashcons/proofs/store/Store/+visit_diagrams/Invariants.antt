@@ -16,6 +16,6 @@ decreases-visit_parts l = 3 * dimension_of (diagram_at l.self.now l.d) + 1
 abbrev pub decreases-visit_diagrams : goal.decreases-visit_diagrams
 decreases-visit_diagrams l = 3 * first_dimension l.self.now.diagrams l.ds.now + 3
 
-abbrev pub invariant-visit_diagrams-loop-d : goal.invariant-visit_diagrams-loop-d
-invariant-visit_diagrams-loop-d l =
-    Visits l.self l.fn.order.keys l.order.keys (flat_map completions (picked l.self.diagrams (take l.d-index l.ds)))
+abbrev pub invariant-visit_diagrams-loop-at : goal.invariant-visit_diagrams-loop-at
+invariant-visit_diagrams-loop-at l =
+    Visits l.self l.fn.order.keys l.order.keys (flat_map completions (picked l.self.diagrams (take l.at l.ds)))

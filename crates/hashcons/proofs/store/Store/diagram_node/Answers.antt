@@ -6,51 +6,51 @@ pub diagram_places-requires : goal.diagram_places-requires
 diagram_places-requires c =
     let r = c.requires in
     let p = diagram_children c.args.self.now r.store c.args.order.now.keys r.listing (id.Diagram c.args.d) r.stands
-    c.view_diagram.result.now c.in-Zig.regs c.in-Zig.sings c.in-Zig.fwds c.in-Zig.bwds
+    c.view_diagram.result c.in-Zig.regs c.in-Zig.sings c.in-Zig.fwds c.in-Zig.bwds
     c.view_diagram.ensures.tree c.view_diagram.ensures.children c.in-Zig.is in
-    rw c.as_slice.ensures p.regs.stand
+    p.regs.stand
 
 pub diagram_places-requires-in-Zig : goal.diagram_places-requires-in-Zig
 diagram_places-requires-in-Zig c =
     let r = c.requires in
     let p = diagram_children c.args.self.now r.store c.args.order.now.keys r.listing (id.Diagram c.args.d) r.stands
-    c.view_diagram.result.now c.in-Zig.regs c.in-Zig.sings c.in-Zig.fwds c.in-Zig.bwds
+    c.view_diagram.result c.in-Zig.regs c.in-Zig.sings c.in-Zig.fwds c.in-Zig.bwds
     c.view_diagram.ensures.tree c.view_diagram.ensures.children c.in-Zig.is in
-    rw c.as_slice-in-Zig.ensures p.sings.stand
+    p.sings.stand
 
 pub arrow_places-requires : goal.arrow_places-requires
 arrow_places-requires c =
     let r = c.requires in
     let p = diagram_children c.args.self.now r.store c.args.order.now.keys r.listing (id.Diagram c.args.d) r.stands
-    c.view_diagram.result.now c.in-Zig.regs c.in-Zig.sings c.in-Zig.fwds c.in-Zig.bwds
+    c.view_diagram.result c.in-Zig.regs c.in-Zig.sings c.in-Zig.fwds c.in-Zig.bwds
     c.view_diagram.ensures.tree c.view_diagram.ensures.children c.in-Zig.is in
-    rw c.as_slice-in-Zig-2.ensures p.fwds.stand
+    p.fwds.stand
 
 pub arrow_places-requires-in-Zig : goal.arrow_places-requires-in-Zig
 arrow_places-requires-in-Zig c =
     let r = c.requires in
     let p = diagram_children c.args.self.now r.store c.args.order.now.keys r.listing (id.Diagram c.args.d) r.stands
-    c.view_diagram.result.now c.in-Zig.regs c.in-Zig.sings c.in-Zig.fwds c.in-Zig.bwds
+    c.view_diagram.result c.in-Zig.regs c.in-Zig.sings c.in-Zig.fwds c.in-Zig.bwds
     c.view_diagram.ensures.tree c.view_diagram.ensures.children c.in-Zig.is in
-    rw c.as_slice-in-Zig-3.ensures p.bwds.stand
+    p.bwds.stand
 
 pub returns-in_ok-arrow_places-in-Zig-2 : goal.returns-in_ok-arrow_places-in-Zig-2
 returns-in_ok-arrow_places-in-Zig-2 c =
     let r = c.requires in
     let p = diagram_children c.args.self.now r.store c.args.order.now.keys r.listing (id.Diagram c.args.d) r.stands
-    c.view_diagram.result.now c.in-Zig.regs c.in-Zig.sings c.in-Zig.fwds c.in-Zig.bwds
+    c.view_diagram.result c.in-Zig.regs c.in-Zig.sings c.in-Zig.fwds c.in-Zig.bwds
     c.view_diagram.ensures.tree c.view_diagram.ensures.children c.in-Zig.is in
     diagram_node_is c.args.self.now r.store c.args.order.now.keys r.listing (id.Diagram c.args.d) r.stands
-    c.in-Zig.regs.items c.in-Zig.sings.items c.in-Zig.fwds.items c.in-Zig.bwds.items
+    c.in-Zig.regs c.in-Zig.sings c.in-Zig.fwds c.in-Zig.bwds
     c.in_ok-diagram_places-in-Zig.field-0 c.in_ok-diagram_places-in-Zig-2.field-0 c.in_ok-arrow_places-in-Zig.field-0
     c.in_ok-arrow_places-in-Zig-2.field-0 p
-    (rw c.as_slice.ensures at c.in_ok-diagram_places-in-Zig.ensures)
-    (rw c.as_slice-in-Zig.ensures at c.in_ok-diagram_places-in-Zig-2.ensures)
-    (rw c.as_slice-in-Zig-2.ensures at c.in_ok-arrow_places-in-Zig.ensures)
-    (rw c.as_slice-in-Zig-3.ensures at c.in_ok-arrow_places-in-Zig-2.ensures)
+    c.in_ok-diagram_places-in-Zig.ensures
+    c.in_ok-diagram_places-in-Zig-2.ensures
+    c.in_ok-arrow_places-in-Zig.ensures
+    c.in_ok-arrow_places-in-Zig-2.ensures
 
 pub returns-in-Zero : goal.returns-in-Zero
 returns-in-Zero c =
     let r = c.requires in
     label_node_is c.args.self.now r.store c.args.order.now.keys r.listing (id.Diagram c.args.d) r.stands
-    c.view_diagram.result.now c.in-Zero.label c.view_diagram.ensures.tree c.in-Zero.is
+    c.view_diagram.result c.in-Zero.label c.view_diagram.ensures.tree c.in-Zero.is

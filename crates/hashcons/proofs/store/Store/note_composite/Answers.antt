@@ -1,20 +1,37 @@
-use Rattle.std.proofs.Common.{sym, subst}
-use Rattle.hashcons.specs.Contents.{IsCompositeOf}
-use Rattle.hashcons.proofs.NoteLemmas.{composite_tables, composite_grows, composite_noted}
+use Rattle.std.proofs.Common.{sym, subst, ap}
+use Rattle.hashcons.specs.Entries.{arrow_views, diagram_views}
+use Rattle.hashcons.specs.Contents.{Contents, IsCompositeOf}
+use Rattle.hashcons.specs.NoteTables.{notes_of}
+use Rattle.hashcons.specs.Tables.{contents_of}
+use Rattle.hashcons.specs.Notes.{same_pair}
+use Rattle.hashcons.proofs.MoreNotes.{no_other_composite, composite_more, composite_noted, composite_renotes}
+use Rattle.hashcons.proofs.OneMoreNote.{put_again, Renotes}
 use Rattle.hashcons.proofs.store.Store.note_composite.Goals as goal
 
-pub invariant_of-self-2 : goal.invariant_of-self-2
-invariant_of-self-2 c =
-    composite_tables c.self.inside.arrows.keys c.self.inside.diagrams.keys _ c.self.invariant c.args.g c.args.f c.args.made
-    (subst (λ s. IsCompositeOf s c.args.g c.args.f c.args.made) (sym c.self.view_is) c.requires) c.insert.new.self.entries c.in_ok-insert.ensures.updates.0
+abbrev here : goal.In_ok-insert → Contents
+here c = contents_of (arrow_views c.self.inside.tables) (diagram_views c.self.inside.tables) (notes_of c.self.inside.notes)
 
-pub returns-clause-notes : goal.returns-clause-notes
-returns-clause-notes c = rw (← c.self.view_is) c.in_ok-insert.ensures.updates.0
+is : (c : goal.In_ok-insert) → IsCompositeOf (here c) c.args.g c.args.f c.args.made
+is c = subst (λ s. IsCompositeOf s c.args.g c.args.f c.args.made) (sym c.self.view_is) c.requires
+
+renoted : (c : goal.In_ok-insert) → Renotes (arrow_views c.self.inside.tables) (diagram_views c.self.inside.tables) (notes_of c.self.inside.notes) (record (notes_of c.self.inside.notes) { composites = c.insert.new.self.entries })
+renoted c = composite_renotes (arrow_views c.self.inside.tables) (diagram_views c.self.inside.tables) (notes_of c.self.inside.notes) c.self.invariant.0 c.args.g c.args.f c.args.made (is c) c.insert.new.self.entries c.in_ok-insert.ensures.updates.0
+
+pub invariant_of-self-2 : goal.invariant_of-self-2
+invariant_of-self-2 c = ((renoted c).tables, c.self.invariant.1)
+
+pub returns-clause-more : goal.returns-clause-more
+returns-clause-more c =
+    rw (← c.self.view_is) (composite_more (arrow_views c.self.inside.tables) (diagram_views c.self.inside.tables) (notes_of c.self.inside.notes) c.self.invariant.0 c.args.g c.args.f c.args.made (is c) c.insert.new.self.entries c.in_ok-insert.ensures.updates.0)
+
+pub returns-clause-already : goal.returns-clause-already
+returns-clause-already c =
+    rw (← c.self.view_is) (λ some. ap (λ ns. contents_of (arrow_views c.self.inside.tables) (diagram_views c.self.inside.tables) (record (notes_of c.self.inside.notes) { composites = ns }))
+    (put_again (same_pair (c.args.g, c.args.f)) (notes_of c.self.inside.notes).composites c.insert.new.self.entries c.args.made _ c.in_ok-insert.field-0
+    c.in_ok-insert.ensures.old c.in_ok-insert.ensures.entries (no_other_composite (arrow_views c.self.inside.tables) (diagram_views c.self.inside.tables) (notes_of c.self.inside.notes) c.self.invariant.0 c.args.g c.args.f c.args.made (is c)) some))
 
 pub returns-clause-grows : goal.returns-clause-grows
-returns-clause-grows c =
-    rw (← c.self.view_is) (composite_grows c.self.inside.arrows.keys c.self.inside.diagrams.keys _ c.self.invariant c.args.g c.args.f c.args.made
-    (subst (λ s. IsCompositeOf s c.args.g c.args.f c.args.made) (sym c.self.view_is) c.requires) c.insert.new.self.entries c.in_ok-insert.ensures.updates.0)
+returns-clause-grows c = rw (← c.self.view_is) (renoted c).grows
 
 pub returns-clause-noted : goal.returns-clause-noted
-returns-clause-noted c = composite_noted _ _ (c.args.g, c.args.f) c.args.made c.in_ok-insert.ensures.updates.0
+returns-clause-noted c = composite_noted (arrow_views c.self.inside.tables) (diagram_views c.self.inside.tables) (notes_of c.self.inside.notes) c.self.invariant.0 c.args.g c.args.f c.args.made (is c) c.insert.new.self.entries c.in_ok-insert.ensures.updates.0

@@ -1,28 +1,32 @@
-use Rattle.std.proofs.Common.{◌≡◌, true, slice_get, Some, sym, subst}
-use Rattle.diagram_terms.specs.Dimension.{IsArrowTree}
-use Rattle.hashcons.specs.declared.node.ArrowNode.{ArrowNode}
-use Rattle.hashcons.specs.Nodes.{HasArrowsOf, described_arrow}
-use Rattle.hashcons.proofs.NodeLemmas.{arrow_eq}
-use Rattle.hashcons.proofs.PutLemmas.{PutsArrow, puts_arrow}
+use Rattle.hashcons.specs.Entries.{arrow_views, diagram_views}
+use Rattle.hashcons.specs.NoteTables.{notes_of}
+use Rattle.hashcons.specs.Nodes.{viewed_arrow}
+use Rattle.hashcons.proofs.PutTrees.{stores_arrow}
 use Rattle.hashcons.proofs.store.Store.put_arrow.Goals as goal
 
-puts : (c : goal.In_ok-index) → PutsArrow c.self.inside.arrows.keys c.insert_full.new.self.keys
-    c.self.inside.diagrams.keys (record { identities = c.self.inside.identities.entries; composites = c.self.inside.composites.entries }) c.args.node
-puts c =
-    puts_arrow c.self.inside.arrows.keys c.self.inside.diagrams.keys (record { identities = c.self.inside.identities.entries; composites = c.self.inside.composites.entries }) c.args.node c.self.invariant
-    (subst (λ s. HasArrowsOf s c.args.node) (sym c.self.view_is) c.requires.children)
-    (subst (λ s. IsArrowTree (described_arrow s c.args.node)) (sym c.self.view_is) c.requires.shape)
-    c.insert_full.new.self.keys c.in_ok-index.ensures.keys
-
 pub invariant_of-self-2 : goal.invariant_of-self-2
-invariant_of-self-2 c = (puts c).tables
+invariant_of-self-2 c =
+    let s = stores_arrow c.args.self.now (arrow_views c.self.inside.tables) (diagram_views c.self.inside.tables)
+    (notes_of c.self.inside.notes)
+    (viewed_arrow c.args.node) c.self.view_is c.self.invariant.0 c.requires.children c.requires.shape
+    (arrow_views c.put_arrow.new.self) c.in_ok-index.index c.in_ok-index.ensures.put (diagram_views c.put_arrow.new.self)
+    c.in_ok-index.ensures.diagrams in
+    (s.tables, c.in_ok-index.ensures.held)
 
 pub returns-clause-made : goal.returns-clause-made
 returns-clause-made c =
-    let stored : (k : ArrowNode) × (slice_get c.insert_full.new.self.keys c.in_ok-index.index ≡ Some k) × (arrow_eq
-    c.args.node k ≡ true) = c.in_ok-index.ensures.stored in
-    let held = (puts c).held c.in_ok-index.index stored.0 stored.1 stored.2 in
-    rw (← c.self.view_is) (record { grows = (puts c).grows; of_store = held.of_list; tree = held.tree })
+    let s = stores_arrow c.args.self.now (arrow_views c.self.inside.tables) (diagram_views c.self.inside.tables)
+    (notes_of c.self.inside.notes)
+    (viewed_arrow c.args.node) c.self.view_is c.self.invariant.0 c.requires.children c.requires.shape
+    (arrow_views c.put_arrow.new.self) c.in_ok-index.index c.in_ok-index.ensures.put (diagram_views c.put_arrow.new.self)
+    c.in_ok-index.ensures.diagrams in
+    record { grows = s.grows; of_store = s.held.of_list; tree = s.held.tree }
 
 pub returns-clause-adds : goal.returns-clause-adds
-returns-clause-adds c = rw (← c.self.view_is) (puts c).adds
+returns-clause-adds c =
+    let s = stores_arrow c.args.self.now (arrow_views c.self.inside.tables) (diagram_views c.self.inside.tables)
+    (notes_of c.self.inside.notes)
+    (viewed_arrow c.args.node) c.self.view_is c.self.invariant.0 c.requires.children c.requires.shape
+    (arrow_views c.put_arrow.new.self) c.in_ok-index.index c.in_ok-index.ensures.put (diagram_views c.put_arrow.new.self)
+    c.in_ok-index.ensures.diagrams in
+    s.adds

@@ -2,7 +2,7 @@ use Rattle.std.proofs.Common.{sym, subst, ◌∙◌, arith}
 use Rattle.diagram_terms.specs.Dimension.{IsDiagramTree, IsArrowTree}
 use Rattle.diagram_terms.proofs.Dimensions.{diagram_tree, arrow_tree}
 use Rattle.diagram_terms.proofs.Shapes.{IsDiagram-point, IsArrow-ends}
-use Rattle.hashcons.proofs.FillLemmas.{PutsDiagramAt, PutsArrowAt, diagram_here, arrow_here, label_here, labels_here, puts_diagram_at, puts_arrow_at, diagrams_there, arrows_there}
+use Rattle.hashcons.proofs.PlacedIds.{PutsDiagramAt, PutsArrowAt, diagram_here, arrow_here, label_here, labels_here, puts_diagram_at, puts_arrow_at, diagrams_there, arrows_there}
 use Rattle.hashcons.proofs.Growth.{Makes-named}
 use Rattle.hashcons.proofs.store.Store.put_node.Goals as goal
 

@@ -1,5 +1,5 @@
 use Rattle.hashcons.proofs.Growth.{Grows-trans}
-use Rattle.hashcons.proofs.FillLemmas.{ids-more}
+use Rattle.hashcons.proofs.PlacedIds.{ids-more}
 use Rattle.hashcons.proofs.store.Store.put_nodes.Goals as goal
 
 pub loop-at-preserved : goal.loop-at-preserved

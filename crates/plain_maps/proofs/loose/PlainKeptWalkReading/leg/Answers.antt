@@ -1,7 +1,7 @@
 use Rattle.std.proofs.Common.{subst, arith}
 use Rattle.zigzag_maps.specs.Walks.{LeadsToLeg}
-use Rattle.zigzag_maps.proofs.ValidityLemmas.{legs_len}
-use Rattle.plain_maps.proofs.LooseLemmas.{fwd_arrow, bwd_arrow}
+use Rattle.zigzag_maps.proofs.TestsByParts.{legs_len}
+use Rattle.plain_maps.proofs.LooseTests.{fwd_arrow, bwd_arrow}
 use Rattle.plain_maps.proofs.loose.PlainKeptWalkReading.leg.Goals as goal
 
 pub fwd-requires-clause-within : goal.fwd-requires-clause-within

@@ -1,5 +1,0 @@
-use Rattle.zigzag_maps.proofs.KeepLemmas.{valid_map-grows}
-use Rattle.degeneracy_tests.proofs.stored.maps_of.Goals as goal
-
-pub returns-clause-one : goal.returns-clause-one
-returns-clause-one c = valid_map-grows _ _ c.in_ok-one.one c.in_ok-other.ensures.grows c.in_ok-one.ensures.valid

@@ -1,0 +1,9 @@
+use Rattle.std.proofs.Common.{subst, IfSome, ◌∙◌}
+use Rattle.hashcons.specs.Contents.{IsIdentityOf}
+use Rattle.hashcons.proofs.OneMoreNote.{right_where_some}
+use Rattle.hashcons.proofs.store.Store.known_identity.Goals as goal
+
+pub returns-clause-right : goal.returns-clause-right
+returns-clause-right c =
+    subst (λ s. IfSome c.copied.result (IsIdentityOf s c.args.d)) c.self.view_is
+    (right_where_some _ c.copied.result _ (c.copied.ensures ∙ c.get.ensures.value) (c.self.invariant.0.store.notes.identities c.args.d))

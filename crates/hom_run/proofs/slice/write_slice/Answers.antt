@@ -1,0 +1,12 @@
+use Rattle.io_edge.proofs.Parts.{not_begun}
+use Rattle.hom_run.proofs.Lines.{on_err}
+use Rattle.hom_run.proofs.slice.write_slice.Goals as goal
+
+pub returns-in_err-heights-clause-err : goal.returns-in_err-heights-clause-err
+returns-in_err-heights-clause-err g c = on_err _ (not_begun _ _)
+
+pub returns-in_err-reply-clause-err : goal.returns-in_err-reply-clause-err
+returns-in_err-reply-clause-err g c = on_err _ (not_begun _ _)
+
+pub returns-in_err-reply_text-clause-err : goal.returns-in_err-reply_text-clause-err
+returns-in_err-reply_text-clause-err g c = on_err _ (not_begun _ _)

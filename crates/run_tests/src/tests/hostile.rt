@@ -1,0 +1,101 @@
+use super::{Case, check_runs};
+use hom_run::Status;
+use std::test::Fail;
+
+const INPUTS: [Case; 15] = [
+    (
+        "look",
+        "{}",
+        Status::Form,
+        "{\"field\":\"document\",\"refused\":\"Form\"}\n",
+    ),
+    (
+        "look",
+        "{\"diagrams\":[],\"format\":1.0,\"generators\":[],\"maps\":[],\"nodes\":[]}",
+        Status::Form,
+        "{\"field\":\"format\",\"refused\":\"Form\"}\n",
+    ),
+    (
+        "look",
+        "{\"diagrams\":[],\"format\":1,\"generators\":[],\"maps\":[],\"nodes\":[{\"label\":[0,0]},{\"bwds\":[],\"fwds\":[],\"regs\":[0,0],\"sings\":[]}]}",
+        Status::Form,
+        "{\"node\":1,\"refused\":\"Shape\"}\n",
+    ),
+    (
+        "look",
+        "{\"diagrams\":[],\"format\":1,\"generators\":[],\"maps\":[],\"nodes\":[{\"label\":[60000,0]}]}",
+        Status::Form,
+        "{\"node\":0,\"refused\":\"Label\"}\n",
+    ),
+    (
+        "look",
+        "{\"diagrams\":[{\"name\":\"A\",\"root\":0},{\"name\":\"A\",\"root\":0}],\"format\":1,\"generators\":[],\"maps\":[],\"nodes\":[{\"label\":[0,0]}]}",
+        Status::Form,
+        "{\"entry\":1,\"field\":\"diagrams\",\"refused\":\"Form\"}\n",
+    ),
+    (
+        "replay",
+        "{\"do\":\"drop\"}\n{\"do\":\"generator\",\"name\":\"x\"}\n",
+        Status::Refused,
+        "{\"field\":\"command\",\"refused\":\"Form\"}\n{\"dim\":0,\"name\":\"x\",\"number\":0,\"ok\":\"generator\"}\n",
+    ),
+    (
+        "look",
+        "{\"diagrams\":[],\"format\":2,\"format\":1,\"generators\":[],\"maps\":[],\"nodes\":[]}",
+        Status::Done,
+        "",
+    ),
+    (
+        "look",
+        "{\"diagrams\":[],\"format\":1,\"format\":2,\"generators\":[],\"maps\":[],\"nodes\":[]}",
+        Status::Form,
+        "{\"field\":\"format\",\"refused\":\"Form\"}\n",
+    ),
+    (
+        "replay",
+        "{\"do\":\"undo\",\"do\":\"generator\",\"name\":\"y\",\"name\":\"x\"}",
+        Status::Done,
+        "{\"dim\":0,\"name\":\"x\",\"number\":0,\"ok\":\"generator\"}\n",
+    ),
+    (
+        "replay",
+        "{\"do\":\"drop\",\"name\":\"\\\"\\\\\\/\\b\\f\\n\\r\\t\\u0041\\u00e9\\u001f\\ud83d\\ude00\"}",
+        Status::Refused,
+        "{\"name\":\"\\\"\\\\/\\b\\f\\n\\r\\tAé\\u001f😀\",\"refused\":\"Unknown\"}\n",
+    ),
+    (
+        "replay",
+        "{\"do\":\"drop\",\"name\":\"\\ud83d\"}\n{\"do\":\"drop\",\"name\":\"\\ude00\"}",
+        Status::Refused,
+        "{\"refused\":\"NotJson\"}\n{\"refused\":\"NotJson\"}\n",
+    ),
+    (
+        "replay",
+        "{\"do\":\"generator\",\"name\":\"éééééééééééééééééééééééééééééééé\"}",
+        Status::Refused,
+        "{\"refused\":\"NameBad\"}\n",
+    ),
+    (
+        "look",
+        "{\"diagrams\":[],\"format\":1,\"generators\":[{\"name\":\"éééééééééééééééééééééééééééééééé\"}],\"maps\":[],\"nodes\":[]}",
+        Status::Form,
+        "{\"entry\":0,\"field\":\"generators\",\"refused\":\"Form\"}\n",
+    ),
+    (
+        "replay",
+        "{\"do\":\"generator\",\"name\":\"x\"}\n{\"do\":\"slice\",\"of\":\"x\",\"path\":[\"s4294967295\"]}\n{\"do\":\"slice\",\"of\":\"x\",\"path\":[\"s4294967296\"]}\n{\"do\":\"slice\",\"of\":\"x\",\"path\":[\"r18446744073709551615\"]}\n",
+        Status::Refused,
+        "{\"dim\":0,\"name\":\"x\",\"number\":0,\"ok\":\"generator\"}\n{\"refused\":\"NoHeight\",\"step\":0}\n{\"field\":\"path\",\"refused\":\"Form\"}\n{\"field\":\"path\",\"refused\":\"Form\"}\n",
+    ),
+    (
+        "slice x r18446744073709551615",
+        "{\"diagrams\":[],\"format\":1,\"generators\":[],\"maps\":[],\"nodes\":[]}",
+        Status::Usage,
+        "",
+    ),
+];
+
+#[test]
+fn answers_hostile_inputs(rt: HostRuntime) -> Result<(), Fail> {
+    check_runs(&rt, &INPUTS)
+}
