@@ -1,6 +1,6 @@
 use Rattle.std.proofs.Common.{◌≡◌, ◌<◌, ◌-◌, length, suc, sym, ◌∙◌, arith}
-use Rattle.hashcons.proofs.Blocks.{empty_list, number_below, list_length, list_fits, last_fits}
-use Rattle.hashcons.proofs.lists.Lists.len.Goals as goal
+use Rattle.block_lists.proofs.Blocks.{empty_list, number_below, list_length, list_fits, last_fits}
+use Rattle.block_lists.proofs.lists.Lists.len.Goals as goal
 
 pub returns-then-len-eq0 : goal.returns-then-len-eq0
 returns-then-len-eq0 c =

@@ -6,15 +6,15 @@ use Rattle.std.specs.Bool.{Decides}
 use Rattle.std.proofs.lemmas.Bool.Decides.{Decides-eqb}
 use Rattle.std.proofs.lemmas.Slice.Eq.{slice_eq-Decides}
 use Rattle.std.proofs.lemmas.List.{map_push, length-map, get_or_append_left, take_min, take_more, drop_min, take-map, take-append-le}
-use Rattle.hashcons.proofs.TableTrees.{below_head, below_tail, AreBelow-more}
+use Rattle.block_lists.proofs.Below.{below_head, below_tail, AreBelow-more}
 use Rattle.std.proofs.lemmas.Option.{same_Some}
 use Rattle.smallvec.specs.SmallVec.{SmallVec}
 use Rattle.indexmap.specs.IndexSet.{insert_key, insert_all}
 use Rattle.diagram_terms.specs.Dual.{AreBelow}
-use Rattle.hashcons.specs.Blocks.{blocks_of, nonempty, distinct_blocks, items_of, same_numbers, blocks_at, joined, lists_in, IsPut, Among, StandOnce, AreBlocksOf, AreInBlocks, PutsList}
-use Rattle.hashcons.proofs.Cutting.{IsBlockOf, blocks_of-more, blocks_join, blocks_have, blocks_length, blocks_none}
-use Rattle.hashcons.proofs.Counting.{nonempty-append}
-use Rattle.hashcons.proofs.Distinct.{among-head, among-tail, among-left, among-right, slice-below, slice-from_get, get-from_slice, slice-map, slice-unmap, slice-push_cases, put_is, inserts, inserts_many, insert_all_present, distinct_once, distinct_has, insert_all-append, map-insert_key}
+use Rattle.block_lists.specs.Blocks.{blocks_of, nonempty, distinct_blocks, items_of, same_numbers, blocks_at, joined, lists_in, IsPut, Among, StandOnce, AreBlocksOf, AreInBlocks, PutsList}
+use Rattle.block_lists.proofs.Cutting.{IsBlockOf, blocks_of-more, blocks_join, blocks_have, blocks_length, blocks_none}
+use Rattle.block_lists.proofs.Counting.{nonempty-append}
+use Rattle.block_lists.proofs.Distinct.{among-head, among-tail, among-left, among-right, slice-below, slice-from_get, get-from_slice, slice-map, slice-unmap, slice-push_cases, put_is, inserts, inserts_many, insert_all_present, distinct_once, distinct_has, insert_all-append, map-insert_key}
 
 pub numbers_decide : (xs ys : List ℕ) → Decides (same_numbers xs ys) (xs ≡ ys)
 numbers_decide xs ys = slice_eq-Decides Decides-eqb xs ys (same_numbers xs ys) refl

@@ -1,8 +1,8 @@
 use Rattle.std.proofs.Common.{◌≡◌, ◌∙◌, take, sym, subst, ap, ap₂}
 use Rattle.std.proofs.lemmas.List.{take-map}
-use Rattle.hashcons.specs.Blocks.{AreInBlocks, items_of, lists_in}
-use Rattle.hashcons.proofs.Blocks.{PutsIn, puts_in}
-use Rattle.hashcons.proofs.lists.Lists.put.Goals as goal
+use Rattle.block_lists.specs.Blocks.{AreInBlocks, items_of, lists_in}
+use Rattle.block_lists.proofs.Blocks.{PutsIn, puts_in}
+use Rattle.block_lists.proofs.lists.Lists.put.Goals as goal
 
 puts : (c : goal.In-Ok) → PutsIn (items_of c.self.inside.blocks.keys) (items_of c.put_list.new.blocks.keys)
     (items_of c.self.inside.lists.keys) (items_of c.put_list.new.lists.keys) c.args.items.now c.in-Ok.number

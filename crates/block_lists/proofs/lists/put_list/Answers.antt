@@ -1,7 +1,7 @@
 use Rattle.std.proofs.Common.{◌≡◌, true, slice_get, Some}
 use Rattle.smallvec.specs.SmallVec.{SmallVec}
-use Rattle.hashcons.proofs.Blocks.{vectors_eq, vector_put}
-use Rattle.hashcons.proofs.lists.put_list.Goals as goal
+use Rattle.block_lists.proofs.Blocks.{vectors_eq, vector_put}
+use Rattle.block_lists.proofs.lists.put_list.Goals as goal
 
 pub returns-clause-put : goal.returns-clause-put
 returns-clause-put c =

@@ -1,8 +1,8 @@
 -- Lists of one length, since each element of one is an element of the other, and stands once in each.
 use Rattle.std.proofs.Common.{◌≡◌, ◌≢◌, ℕ, zero, suc, ◌<◌, ◌≤◌, ◌+◌, List, [], ◌∷◌, ◌++◌, length, map, slice_get, Some, refl, sym, ap, ◌∙◌, arith}
 use Rattle.std.proofs.lemmas.Option.{same_Some}
-use Rattle.hashcons.specs.Blocks.{Among, StandOnce, nonempty}
-use Rattle.hashcons.proofs.Distinct.{among-head, among-tail, slice-unmap}
+use Rattle.block_lists.specs.Blocks.{Among, StandOnce, nonempty}
+use Rattle.block_lists.proofs.Distinct.{among-head, among-tail, slice-unmap}
 
 module _ {X : Type 0} where
   -- the list without the element at a place

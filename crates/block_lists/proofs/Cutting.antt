@@ -3,7 +3,7 @@ use Rattle.std.proofs.Common.{◌≡◌, ℕ, ◌<◌, ◌≤◌, ◌+◌, ◌*�
 use Rattle.std.proofs.lemmas.Bool.{cases_lt}
 use Rattle.std.specs.List.{flat_map}
 use Rattle.std.proofs.lemmas.List.{take-map, drop-map, length-map}
-use Rattle.hashcons.specs.Blocks.{cut, blocks_of}
+use Rattle.block_lists.specs.Blocks.{cut, blocks_of}
 
 module _ {X : Type 0} where
   -- room for more cuts changes nothing

@@ -1,8 +1,8 @@
 use Rattle.std.proofs.Common.{rules, ◌≡◌, true, take, slice_get, Some, ◌∙◌, ap}
 use Rattle.smallvec.specs.SmallVec.{SmallVec}
-use Rattle.hashcons.specs.Blocks.{items_of}
-use Rattle.hashcons.proofs.Blocks.{puts_one, vectors_eq, vectors_keys, vector_at}
-use Rattle.hashcons.proofs.lists.put_blocks.Goals as goal
+use Rattle.block_lists.specs.Blocks.{items_of}
+use Rattle.block_lists.proofs.Blocks.{puts_one, vectors_eq, vectors_keys, vector_at}
+use Rattle.block_lists.proofs.lists.put_blocks.Goals as goal
 
 pub loop-rest-preserved : goal.loop-rest-preserved
 loop-rest-preserved c =

@@ -1,8 +1,8 @@
 use Rattle.std.proofs.Common.{◌≡◌, ℕ, List, length, take, sym, subst, ◌∙◌, ap, ap₂}
 use Rattle.std.proofs.lemmas.List.{take-map}
-use Rattle.hashcons.specs.Blocks.{items_of, distinct_blocks, lists_in}
-use Rattle.hashcons.proofs.Blocks.{kept_tables, kept_is}
-use Rattle.hashcons.proofs.lists.Lists.truncate.Goals as goal
+use Rattle.block_lists.specs.Blocks.{items_of, distinct_blocks, lists_in}
+use Rattle.block_lists.proofs.Blocks.{kept_tables, kept_is}
+use Rattle.block_lists.proofs.lists.Lists.truncate.Goals as goal
 
 pub invariant_of-self : goal.invariant_of-self
 invariant_of-self c =

@@ -1,8 +1,8 @@
 use Rattle.std.proofs.Common.{◌≡◌, ◌∷◌, [], slice_get, Some, length, take_all, sym, ap, ◌∙◌, arith}
-use Rattle.hashcons.specs.Blocks.{items_of, nonempty}
-use Rattle.hashcons.proofs.Distinct.{slice-from_get}
-use Rattle.hashcons.proofs.Blocks.{filled-more, filled-all}
-use Rattle.hashcons.proofs.lists.Lists.filled_count.Goals as goal
+use Rattle.block_lists.specs.Blocks.{items_of, nonempty}
+use Rattle.block_lists.proofs.Distinct.{slice-from_get}
+use Rattle.block_lists.proofs.Blocks.{filled-more, filled-all}
+use Rattle.block_lists.proofs.lists.Lists.filled_count.Goals as goal
 
 pub loop-at-preserved : goal.loop-at-preserved
 loop-at-preserved c =

@@ -1,6 +1,6 @@
 ghost use Rattle.std.specs.Prelude.{◌≡◌, ◌<◌, ◌≤◌, ◌^◌, [], ◌∷◌, ◌++◌, IfOk, OnOk, OnErr, length, take};
-ghost use Rattle.hashcons.specs.Blocks.{IsPut, PutsList, AreBlocksOf, blocks_of, distinct_blocks, nonempty, items_of, same_numbers};
-ghost use Rattle.hashcons.specs.Counts.{AreCounts};
+ghost use Rattle.block_lists.specs.Blocks.{IsPut, PutsList, AreBlocksOf, blocks_of, distinct_blocks, nonempty, items_of, same_numbers};
+ghost use Rattle.block_lists.specs.Counts.{AreCounts};
 ghost use Rattle.indexmap.specs.IndexSet.{insert_all};
 
 use indexmap::IndexSet;
@@ -14,16 +14,16 @@ const BLOCK: usize = 8;
 /// Lists of numbers, each kept once under the number of its place. A list is kept in blocks, of
 /// which each distinct one is kept once.
 #[derive(Drop)]
-pub(crate) struct Lists {
+pub struct Lists {
     blocks: IndexSet<SmallVec<usize, 8>>,
     lists: IndexSet<SmallVec<usize, 4>>,
 }
 
 /// How many lists there are, and how many distinct blocks they have.
 #[derive(Drop)]
-pub(crate) struct Counts {
-    pub(crate) lists: usize,
-    pub(crate) blocks: usize,
+pub struct Counts {
+    pub lists: usize,
+    pub blocks: usize,
 }
 
 impl Model for Lists {
@@ -31,7 +31,7 @@ impl Model for Lists {
 
     ghost Value = { List (List ℕ) };
 
-    ghost use Rattle.hashcons.specs.Blocks.{AreInBlocks, lists_in, items_of};
+    ghost use Rattle.block_lists.specs.Blocks.{AreInBlocks, lists_in, items_of};
 
     ghost view = { λ s. lists_in (items_of s.blocks.keys) (items_of s.lists.keys) };
 
@@ -42,7 +42,7 @@ impl Lists {
     ghost use Rattle.std.specs.Prelude.{get_or, slice_index};
 
     /// No lists.
-    pub(crate) fn new(alloc: Global) -> Lists
+    pub fn new(alloc: Global) -> Lists
         ensures { result ≡ [] }
     {
         Lists {
@@ -52,12 +52,12 @@ impl Lists {
     }
 
     /// The allocator that the lists take memory from.
-    pub(crate) fn allocator(&self) -> Global {
+    pub fn allocator(&self) -> Global {
         *self.blocks.allocator()
     }
 
     /// The number of a list, which is put last where it is new.
-    pub(crate) fn put(&mut self, items: &[usize]) -> Result<usize, AllocError>
+    pub fn put(&mut self, items: &[usize]) -> Result<usize, AllocError>
         ensures put { IfOk result (λ number. IsPut self.old self.new items.now number) }
         ensures err { OnErr result (self.new ≡ self.old) }
     {
@@ -72,7 +72,7 @@ impl Lists {
     }
 
     /// How many lists there are, and how many distinct blocks they have.
-    pub(crate) fn counts(&self) -> Counts
+    pub fn counts(&self) -> Counts
         ensures { AreCounts self.now result }
     {
         Counts {
@@ -82,7 +82,7 @@ impl Lists {
     }
 
     /// How many distinct blocks the lists have.
-    pub(crate) fn block_count(&self) -> usize
+    pub fn block_count(&self) -> usize
         ensures count { result ≡ length (distinct_blocks self.now) }
         ensures small { result < 2 ^ 60 }
     {
@@ -90,7 +90,7 @@ impl Lists {
     }
 
     /// How many lists are not empty.
-    pub(crate) fn filled_count(&self) -> usize
+    pub fn filled_count(&self) -> usize
         ensures count { result ≡ length (nonempty self.now) }
         ensures small { result < 2 ^ 60 }
     {
@@ -103,7 +103,7 @@ impl Lists {
     }
 
     /// Keeps the first lists, of which these are the counts.
-    pub(crate) fn truncate(&mut self, counts: &Counts)
+    pub fn truncate(&mut self, counts: &Counts)
         requires { AreCounts (take counts.now.lists self.old) counts.now }
         ensures { self.new ≡ take counts.now.lists self.old }
     {
@@ -112,7 +112,7 @@ impl Lists {
     }
 
     /// The length of a list.
-    pub(crate) fn len(&self, list: usize) -> usize
+    pub fn len(&self, list: usize) -> usize
         requires { list < length self.now }
         ensures { result ≡ length (get_or self.now list []) }
     {
@@ -125,7 +125,7 @@ impl Lists {
     }
 
     /// An entry of a list.
-    pub(crate) fn at(&self, list: usize, at: usize) -> usize
+    pub fn at(&self, list: usize, at: usize) -> usize
         requires list { list < length self.now }
         requires within { at < length (get_or self.now list []) }
         ensures { result ≡ slice_index (get_or self.now list []) at }

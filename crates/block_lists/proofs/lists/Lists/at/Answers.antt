@@ -1,6 +1,6 @@
 use Rattle.std.proofs.Common.{◌<◌, ◌/◌, List, ℕ, [], length, get_or, sym, subst}
-use Rattle.hashcons.proofs.Blocks.{entry_number, number_below, entry_within, entry_is}
-use Rattle.hashcons.proofs.lists.Lists.at.Goals as goal
+use Rattle.block_lists.proofs.Blocks.{entry_number, number_below, entry_within, entry_is}
+use Rattle.block_lists.proofs.lists.Lists.at.Goals as goal
 
 pub bounds-deref-at : goal.bounds-deref-at
 bounds-deref-at c =

@@ -4,7 +4,7 @@ use Rattle.std.specs.List.{list_any}
 use Rattle.std.specs.Bool.{Decides}
 use Rattle.std.proofs.lemmas.List.{map_push}
 use Rattle.indexmap.specs.IndexSet.{insert_key, insert_all}
-use Rattle.hashcons.specs.Blocks.{IsPut, Among, StandOnce, distinct}
+use Rattle.block_lists.specs.Blocks.{IsPut, Among, StandOnce, distinct}
 
 -- ---- places
 
