@@ -264,6 +264,14 @@ module _ (bs0 bs1 nss0 nss1 : List (List ℕ)) (xs : List ℕ) (place : ℕ) (ta
       by (inl e) = put_there e
       by (inr e) = put_new e.0 e.1
 
+-- the empty list has no blocks
+pub no_blocks : (bs : List (List ℕ)) → AreBlocksOf bs [] []
+no_blocks bs = record {
+  fits = omega arith;
+  within = record { below = λ i l. absurd (omega arith) };
+  are = refl;
+}
+
 -- ---- the first lists alone
 
 slice-take : {X : Type 0} → (xs : List X) (n i : ℕ) (x : X) → slice_get (take n xs) i ≡ Some x → slice_get xs i ≡ Some x

@@ -1,4 +1,4 @@
-ghost use Rattle.std.specs.Prelude.{◌≡◌, ◌<◌, ◌≤◌, ◌^◌, [], ◌∷◌, ◌++◌, IfOk, OnOk, OnErr, length, take};
+ghost use Rattle.std.specs.Prelude.{◌≡◌, ◌<◌, ◌≤◌, ◌^◌, [], ◌∷◌, ◌++◌, IfOk, IsTrue, OnOk, OnErr, Some, length, slice_get, take};
 ghost use Rattle.block_lists.specs.Blocks.{IsPut, PutsList, AreBlocksOf, blocks_of, distinct_blocks, nonempty, items_of, same_numbers};
 ghost use Rattle.block_lists.specs.Counts.{AreCounts};
 ghost use Rattle.indexmap.specs.IndexSet.{insert_all};
@@ -16,7 +16,10 @@ const BLOCK: usize = 8;
 #[derive(Drop)]
 pub struct Lists {
     blocks: IndexSet<SmallVec<usize, 8>>,
-    lists: IndexSet<SmallVec<usize, 4>>,
+    // most lists have one block
+    lists: IndexSet<SmallVec<usize, 1>>,
+    // where the empty list was put last, so that it is not searched for
+    empty: usize,
 }
 
 /// How many lists there are, and how many distinct blocks they have.
@@ -48,6 +51,7 @@ impl Lists {
         Lists {
             blocks: IndexSet::new(alloc),
             lists: IndexSet::new(alloc),
+            empty: 0,
         }
     }
 
@@ -61,6 +65,9 @@ impl Lists {
         ensures put { IfOk result (λ number. IsPut self.old self.new items.now number) }
         ensures err { OnErr result (self.new ≡ self.old) }
     {
+        if items.is_empty() {
+            return self.put_empty();
+        }
         let held = self.blocks.len();
         match put_list(&mut self.blocks, &mut self.lists, items) {
             Ok(number) => Ok(number),
@@ -69,6 +76,27 @@ impl Lists {
                 Err(error)
             }
         }
+    }
+
+    /// The number of the empty list, which is put last where it is new.
+    fn put_empty(&mut self) -> Result<usize, AllocError>
+        ensures put { IfOk result (λ number. IsPut self.old self.new [] number) }
+        ensures err { OnErr result (self.new ≡ self.old) }
+    {
+        if self.is_empty_at(self.empty) {
+            return Ok(self.empty);
+        }
+        let alloc = self.allocator();
+        let (number, _) = self.lists.insert_full(SmallVec::new(alloc))?;
+        self.empty = number;
+        Ok(number)
+    }
+
+    /// Whether the empty list has this number.
+    fn is_empty_at(&self, list: usize) -> bool
+        ensures { IsTrue result → slice_get self.now list ≡ Some [] }
+    {
+        list < self.lists.len() && self.len(list) == 0
     }
 
     /// How many lists there are, and how many distinct blocks they have.
@@ -146,7 +174,7 @@ fn filled(numbers: &[usize]) -> usize
 /// Puts the blocks of a list, and then the list.
 fn put_list(
     blocks: &mut IndexSet<SmallVec<usize, 8>>,
-    lists: &mut IndexSet<SmallVec<usize, 4>>,
+    lists: &mut IndexSet<SmallVec<usize, 1>>,
     items: &[usize],
 ) -> Result<usize, AllocError>
     ensures grows { take (length blocks.old.keys) (items_of blocks.new.keys) ≡ items_of blocks.old.keys }
@@ -162,7 +190,7 @@ fn put_list(
 fn put_blocks(
     blocks: &mut IndexSet<SmallVec<usize, 8>>,
     items: &[usize],
-) -> Result<SmallVec<usize, 4>, AllocError>
+) -> Result<SmallVec<usize, 1>, AllocError>
     ensures grows { take (length blocks.old.keys) (items_of blocks.new.keys) ≡ items_of blocks.old.keys }
     ensures ok { IfOk result (λ ns. AreBlocksOf (items_of blocks.new.keys) ns.items items.now) }
     ensures blocks { OnOk result (items_of blocks.new.keys ≡ insert_all same_numbers (items_of blocks.old.keys) (blocks_of items.now)) }
