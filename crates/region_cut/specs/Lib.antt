@@ -1,0 +1,4 @@
+pub mod RegionValues
+pub mod OverRegions
+pub mod CutTrees
+pub mod PointTrees
