@@ -1,31 +1,30 @@
 -- What a cut asks of the cuts of slices, and how it is made of them.
-use Rattle.std.proofs.Common.{◌≡◌, ℕ, zero, suc, ◌+◌, ◌-◌, ◌<◌, ◌≤◌, List, [], ◌∷◌, ◌++◌, map, length, get_or, refl, sym, ap, subst, ◌∙◌, arith, Ok, Result}
+use Rattle.std.proofs.Common.{◌≡◌, ℕ, zero, suc, ◌+◌, ◌-◌, ◌<◌, ◌≤◌, List, [], ◌∷◌, ◌++◌, map, get_or, refl, sym, ap, subst, ◌∙◌, arith, Ok, Result}
 use Rattle.std.proofs.lemmas.List.{get_or-map, length-map, ext_get_or}
 use Rattle.std.proofs.lemmas.List.FromFn.{map-range_with_len_more}
-use Rattle.diagram_terms.specs.Tree.{Tree, nil, zag, heights, regs, sings, fwds, bwds}
-use Rattle.diagram_terms.specs.Dimension.{dimension_of, IsArrowTree, IsDiagramTree}
+use Rattle.diagram_terms.specs.Tree.{Tree, nil, zag, heights}
+use Rattle.diagram_terms.specs.Dimension.{dimension_of, IsArrowTree}
 use Rattle.diagram_terms.specs.Dual.{dual, tab}
-use Rattle.diagram_terms.specs.Family.{Dia, Arr, reg, sing, fwd, bwd, arrow_reg, arrow_sing}
-use Rattle.diagram_terms.specs.Decoded.{dia, arr, dia_tree, arr_tree}
+use Rattle.diagram_terms.specs.Family.{Arr}
+use Rattle.diagram_terms.specs.Decoded.{arr, arr_tree}
 use Rattle.diagram_terms.specs.Nodes.{picked}
-use Rattle.diagram_terms.specs.Shape.{IsDiagram, IsArrow, reg_at, sing_at, fwd_at, bwd_at}
-use Rattle.diagram_terms.proofs.Dimensions.{arrow_tree, arrow_dimension}
+use Rattle.diagram_terms.specs.Shape.{reg_at, sing_at}
+use Rattle.diagram_terms.proofs.Dimensions.{arrow_tree}
 use Rattle.diagram_terms.proofs.Duals.{length-tab, get-tab}
 use Rattle.diagram_terms.proofs.FamilyShapes.{arrow_shape, valid_arrow_fits}
-use Rattle.diagram_terms.proofs.Glue.{dia-reg, dia-sing, dia-fwd, dia-bwd, arr-reg, arr-sing, arr_tree-arr}
+use Rattle.diagram_terms.proofs.Glue.{arr-reg, arr-sing, arr_tree-arr}
 use Rattle.smallvec.specs.SmallVec.{SmallVec}
-use Rattle.hashcons.specs.Contents.{Contents, Grows, IsArrowOf, arrow_at}
+use Rattle.hashcons.specs.Contents.{Contents, IsArrowOf, arrow_at}
 use Rattle.hashcons.specs.Made.{MakesArrow, MakesArrows}
 use Rattle.hashcons.proofs.OneMoreTree.{Grows-refl}
 use Rattle.hashcons.proofs.Growth.{Grows-trans, store-kept, diagram-kept, arrow-kept, diagram_at-kept, arrow_at-kept, gathers-arrows_grow, gathers-picked}
 use Rattle.diagram_terms.specs.Cuts.{cut_arrow}
-use Rattle.diagram_terms.specs.Preimages.{preimage}
 use Rattle.diagram_terms.specs.Regions.{Reg, tab_from, reg_region, sing_region}
 use Rattle.region_laws.proofs.RegionParts.{get-tab_from, length-tab_from}
 use Rattle.region_laws.proofs.CutArrows.{cuts_of_arrows_are_valid}
 use Rattle.region_cut.specs.declared.region.Region.{Region}
 use Rattle.region_cut.specs.RegionValues.{region_of}
-use Rattle.region_cut.specs.OverRegions.{IsOver, IsOverSome}
+use Rattle.region_cut.specs.OverRegions.{IsOverSome}
 use Rattle.region_cut.specs.CutTrees.{cut_height, cut_arrow_reg, cut_arrow_sing}
 use Rattle.region_cut.proofs.SlicesOver.{over_same, over-reg, over-sing, regs_within, sings_within}
 

@@ -1,12 +1,12 @@
 -- What the cut of a diagram asks of the cuts of its slices and legs, and how it is made of them.
-use Rattle.std.proofs.Common.{◌≡◌, ℕ, zero, suc, ◌+◌, ◌-◌, ◌<◌, ◌≤◌, List, map, length, get_or, [], ◌∷◌, ◌++◌, refl, sym, ap, subst, ◌∙◌, arith, Ok, Result}
-use Rattle.diagram_terms.specs.Tree.{Tree, nil, zig, regs, sings, fwds, bwds}
-use Rattle.diagram_terms.specs.Dimension.{dimension_of, IsDiagramTree}
+use Rattle.std.proofs.Common.{◌≡◌, ℕ, zero, suc, ◌+◌, ◌-◌, ◌<◌, ◌≤◌, List, length, [], ◌∷◌, ◌++◌, refl, sym, ap, subst, ◌∙◌, arith, Ok, Result}
+use Rattle.diagram_terms.specs.Tree.{Tree, zig, regs, sings, fwds, bwds}
+use Rattle.diagram_terms.specs.Dimension.{IsDiagramTree}
 use Rattle.diagram_terms.specs.Dual.{tab}
-use Rattle.diagram_terms.specs.Family.{Dia, Arr, no_dia, no_arr, reg, sing, fwd, bwd}
+use Rattle.diagram_terms.specs.Family.{Dia, no_dia, no_arr, reg, sing}
 use Rattle.diagram_terms.specs.Decoded.{dia, arr, dia_tree, arr_tree}
 use Rattle.diagram_terms.specs.Nodes.{picked}
-use Rattle.diagram_terms.specs.Shape.{IsDiagram, IsArrow, reg_at, sing_at, fwd_at, bwd_at}
+use Rattle.diagram_terms.specs.Shape.{reg_at, sing_at, fwd_at, bwd_at}
 use Rattle.diagram_terms.specs.Valid.{Valid}
 use Rattle.diagram_terms.proofs.Dimensions.{diagram_tree}
 use Rattle.diagram_terms.proofs.FamilyShapes.{diagram_shape, valid_fits}
@@ -20,11 +20,11 @@ use Rattle.hashcons.proofs.Growth.{Grows-trans, gathers-diagrams_grow, gathers-a
 use Rattle.hashcons.specs.Gathers.{Gathers}
 use Rattle.diagram_terms.specs.Cuts.{cut_arrow, cut_diagram}
 use Rattle.diagram_terms.specs.ClosedRegions.{IsClosedRegion}
-use Rattle.diagram_terms.specs.Regions.{Reg, tab_from, reg_region, sing_region}
+use Rattle.diagram_terms.specs.Regions.{Reg, reg_region, sing_region}
 use Rattle.region_laws.proofs.PreimageCases.{closed_reg, closed_sing}
 use Rattle.region_laws.proofs.CutDiagrams.{cuts_of_diagrams_are_valid}
 use Rattle.region_cut.specs.declared.region.Region.{Region}
-use Rattle.region_cut.specs.OverRegions.{IsOverSome, HasRegion}
+use Rattle.region_cut.specs.OverRegions.{HasRegion}
 use Rattle.region_cut.specs.CutTrees.{MakesDiagrams, cut_reg, cut_sing, cut_fwd, cut_bwd}
 use Rattle.region_cut.specs.RegionValues.{region_of}
 use Rattle.region_cut.proofs.CutSteps.{IsCutStep, over_some, tab_of_parts}

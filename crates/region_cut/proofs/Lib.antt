@@ -5,3 +5,5 @@ pub mod CutSteps
 pub mod DiagramSteps
 pub mod MapCuts
 pub mod PointSteps
+pub mod NextPoints
+pub mod WalkSteps

@@ -1,20 +1,20 @@
 -- Cuts of valid diagrams and valid maps are valid.
-use Rattle.std.proofs.Common.{◌≡◌, ℕ, zero, suc, refl, sym, ap, subst, ◌∙◌, arith, Ok, Err, Result, IfOk}
+use Rattle.std.proofs.Common.{◌≡◌, ℕ, sym, ap, subst, ◌∙◌, Ok, Err, Result, IfOk}
 use Rattle.diagram_terms.specs.Tree.{Tree}
 use Rattle.diagram_terms.specs.Dimension.{dimension_of}
 use Rattle.diagram_terms.specs.Family.{Dia, Arr}
 use Rattle.diagram_terms.specs.Decoded.{dia, arr, dia_tree, arr_tree}
 use Rattle.diagram_terms.specs.OnTrees.{on_diagram, on_arrow}
-use Rattle.diagram_terms.specs.Shape.{IsDiagram, IsArrow}
+use Rattle.diagram_terms.specs.Shape.{IsDiagram}
 use Rattle.diagram_terms.specs.Valid.{Valid, ValidArrow}
 use Rattle.diagram_terms.proofs.Dimensions.{diagram_dimension, arrow_dimension}
 use Rattle.diagram_terms.proofs.FamilyShapes.{diagram_shape, valid_fits, arrow_shape, valid_arrow_fits}
 use Rattle.diagram_terms.proofs.Glue.{dia-dia_tree, arr-arr_tree}
-use Rattle.hashcons.specs.Contents.{Contents, Grows, IsDiagramOf, diagram_at, arrow_at}
+use Rattle.hashcons.specs.Contents.{Contents, Grows, diagram_at, arrow_at}
 use Rattle.hashcons.specs.Made.{MakesDiagram, MakesArrow}
 use Rattle.hashcons.proofs.Growth.{Grows-trans}
 use Rattle.zigzag_maps.specs.declared.map.Map.{Map}
-use Rattle.zigzag_maps.specs.Found.{IsValidDiagram, IsValidMap, MakesMap}
+use Rattle.zigzag_maps.specs.Found.{IsValidDiagram, IsValidMap}
 use Rattle.diagram_terms.specs.ValidTrees.{IsValidTree, IsArrowBetween}
 use Rattle.zigzag_maps.proofs.KeptMaps.{valid_diagram-grows}
 use Rattle.diagram_terms.specs.Cuts.{cut_arrow, cut_diagram}
@@ -25,7 +25,7 @@ use Rattle.region_laws.proofs.CutArrows.{along, cuts_of_arrows_are_valid}
 use Rattle.region_laws.proofs.CutDiagrams.{cuts_of_diagrams_are_valid}
 use Rattle.region_laws.proofs.Preimages.{preimages_are_closed}
 use Rattle.region_cut.specs.declared.region.Region.{Region}
-use Rattle.region_cut.specs.OverRegions.{IsOver, IsOverSome, HasRegion}
+use Rattle.region_cut.specs.OverRegions.{IsOverSome, HasRegion}
 use Rattle.region_cut.specs.CutTrees.{cut_diagram_tree, cut_arrow_tree, cut_source_tree}
 use Rattle.region_cut.specs.RegionValues.{region_of, IsClosedIn, IsPreimageOf}
 use Rattle.region_cut.proofs.SlicesOver.{valid_tree}

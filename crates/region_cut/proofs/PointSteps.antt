@@ -1,12 +1,12 @@
 -- The region of a point, by that of the rest of its heights.
-use Rattle.std.proofs.Common.{◌&&◌, true, ◌≡◌, ℕ, zero, suc, ◌+◌, ◌-◌, ◌<◌, ◌≤◌, List, [], ◌∷◌, ◌++◌, map, length, get_or, drop, drop_of_length-le, Vec, Global, Result, IfOk, Ok, Err, refl, sym, ap, subst, ◌∙◌, arith, inl, inr}
+use Rattle.std.proofs.Common.{◌&&◌, true, ◌≡◌, ℕ, zero, suc, ◌+◌, ◌-◌, ◌<◌, List, [], ◌∷◌, length, get_or, drop, drop_of_length-le, Vec, Global, Result, IfOk, Ok, Err, refl, sym, ap, subst, ◌∙◌, arith, inl, inr}
 use Rattle.std.proofs.lemmas.Bool.{cases_lt}
 use Rattle.std.proofs.lemmas.List.{drop_more}
 use Rattle.diagram_terms.specs.declared.place.Height.{Height}
 use Rattle.diagram_terms.specs.declared.place.Height.TheVariants as height_kind
 use Rattle.diagram_terms.specs.Tree.{Tree, sings}
 use Rattle.diagram_terms.specs.Dimension.{dimension_of}
-use Rattle.diagram_terms.specs.Family.{Dia, Arr, reg, sing, fwd, bwd}
+use Rattle.diagram_terms.specs.Family.{Dia, reg, sing}
 use Rattle.diagram_terms.specs.Decoded.{dia, arr}
 use Rattle.diagram_terms.specs.Shape.{IsDiagram, reg_at, sing_at, fwd_at, bwd_at}
 use Rattle.diagram_terms.specs.Valid.{Valid}
@@ -14,9 +14,9 @@ use Rattle.diagram_terms.proofs.Dimensions.{diagram_dimension}
 use Rattle.diagram_terms.proofs.Glue.{dia-reg, dia-sing, dia-fwd, dia-bwd, dia-sings_len}
 use Rattle.diagram_terms.specs.ClosedRegions.{IsClosedRegion}
 use Rattle.diagram_terms.specs.Paths.{IsPointOf}
-use Rattle.diagram_terms.specs.PointRegions.{point_region, at_reg, at_sing}
+use Rattle.diagram_terms.specs.PointRegions.{point_region, at_reg}
 use Rattle.diagram_terms.specs.Preimages.{preimage}
-use Rattle.diagram_terms.specs.Regions.{Reg, no_region}
+use Rattle.diagram_terms.specs.Regions.{Reg}
 use Rattle.region_laws.proofs.PointRegions.{point_region-reg, point_region-sing, point_regions_are_closed}
 use Rattle.diagram_terms.specs.ValidTrees.{IsValidTree}
 use Rattle.region_cut.specs.declared.region.Region.{Region}

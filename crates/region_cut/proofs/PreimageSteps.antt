@@ -2,10 +2,10 @@
 use Rattle.std.proofs.Common.{◌≡◌, ℕ, zero, suc, ◌+◌, ◌-◌, ◌<◌, ◌≤◌, List, map, length, get_or, Vec, Global, Result, IfOk, Ok, Err, refl, sym, ap, subst, ◌∙◌, arith}
 use Rattle.std.proofs.lemmas.Bool.{cond-true, cond-false, lt-ltb, le-ltb}
 use Rattle.std.proofs.lemmas.List.{get_or-map, length-map}
-use Rattle.diagram_terms.specs.Tree.{Tree, heights, regs, sings, fwds, bwds}
+use Rattle.diagram_terms.specs.Tree.{Tree, heights, sings}
 use Rattle.diagram_terms.specs.Dimension.{dimension_of}
 use Rattle.diagram_terms.specs.Dual.{dual}
-use Rattle.diagram_terms.specs.Family.{Dia, Arr, reg, sing, fwd, bwd, arrow_reg, arrow_sing}
+use Rattle.diagram_terms.specs.Family.{Dia, Arr, reg, sing, bwd}
 use Rattle.diagram_terms.specs.Decoded.{dia, arr}
 use Rattle.diagram_terms.specs.Shape.{IsDiagram, IsArrow, reg_at, sing_at, fwd_at, bwd_at}
 use Rattle.diagram_terms.proofs.Dimensions.{arrow_dimension, diagram_dimension}
@@ -22,7 +22,7 @@ use Rattle.region_cut.specs.OverRegions.{IsOver}
 use Rattle.region_cut.specs.RegionValues.{region_of, IsRegionValue, AreRegionValues, IsClosedIn, IsPreimageOf}
 use Rattle.diagram_terms.specs.OnTrees.{on_diagram}
 use Rattle.region_cut.proofs.ReadRegions.{value_all, value_span}
-use Rattle.region_cut.proofs.SlicesOver.{over_same, valid_tree, over-reg, over-sing, over-fwd, over-bwd, sing_closed, regs_within, sings_within, heights_within, source_within, rises}
+use Rattle.region_cut.proofs.SlicesOver.{over_same, valid_tree, over-reg, over-sing, over-fwd, over-bwd, sing_closed, regs_within, sings_within, source_within, rises}
 
 -- an arrow with slices
 pub arrow_above : (d : ℕ) (f : Tree) → IsArrow (suc d) f → 0 < dimension_of f

@@ -1,12 +1,12 @@
 -- The slices of an arrow over a closed region, of its preimage, and of a diagram with a region.
-use Rattle.std.proofs.Common.{◌≡◌, ℕ, zero, suc, ◌-◌, ◌<◌, ◌≤◌, length, get_or, refl, sym, ap, subst, ◌∙◌, arith}
-use Rattle.diagram_terms.specs.Tree.{Tree, heights, regs, sings, fwds, bwds}
+use Rattle.std.proofs.Common.{◌≡◌, ℕ, suc, ◌<◌, ◌≤◌, length, get_or, sym, subst, arith}
+use Rattle.diagram_terms.specs.Tree.{Tree, heights, regs, sings}
 use Rattle.diagram_terms.specs.Dual.{dual}
-use Rattle.diagram_terms.specs.Family.{Dia, Arr, reg, sing, fwd, bwd, arrow_reg, arrow_sing}
+use Rattle.diagram_terms.specs.Family.{Dia, Arr, reg, sing}
 use Rattle.diagram_terms.specs.Decoded.{dia, arr}
-use Rattle.diagram_terms.specs.Shape.{IsDiagram, IsArrow, reg_at, sing_at, fwd_at, bwd_at}
+use Rattle.diagram_terms.specs.Shape.{IsDiagram, reg_at, sing_at, fwd_at, bwd_at}
 use Rattle.diagram_terms.specs.Valid.{Valid, ValidArrow}
-use Rattle.diagram_terms.proofs.Glue.{dia-reg, dia-sing, dia-fwd, dia-bwd, dia-sings_len, arr-reg, arr-sing, arr-regs_len, arr-sings_len}
+use Rattle.diagram_terms.proofs.Glue.{dia-fwd, dia-bwd, dia-sings_len, arr-reg, arr-sing, arr-regs_len, arr-sings_len}
 use Rattle.diagram_terms.proofs.Shapes.{one_diagram_dimension}
 use Rattle.diagram_terms.specs.ValidTrees.{IsValidTree}
 use Rattle.map_laws.proofs.ValidParts.{dual_within}
@@ -16,7 +16,7 @@ use Rattle.diagram_terms.specs.Regions.{Reg, reg_region, sing_region}
 use Rattle.region_laws.proofs.PreimageRegions.{interval_order, interval_within, goes_from, goes_to}
 use Rattle.region_laws.proofs.PreimageCases.{closed_reg, closed_sing}
 use Rattle.region_laws.proofs.Preimages.{preimages_are_closed}
-use Rattle.region_cut.specs.OverRegions.{IsOver, IsOverSome, HasRegion}
+use Rattle.region_cut.specs.OverRegions.{IsOver}
 
 -- a valid tree is valid at each dimension that it has
 pub valid_tree : (n : ℕ) (t : Tree) → IsDiagram n t → IsValidTree t → Valid n (dia n t)

@@ -2,3 +2,4 @@ pub mod RegionValues
 pub mod OverRegions
 pub mod CutTrees
 pub mod PointTrees
+pub mod NextPoints

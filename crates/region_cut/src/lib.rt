@@ -4,11 +4,13 @@
 mod arrows;
 mod cuts;
 mod diagrams;
-mod points;
+mod point_regions;
 mod preimages;
 mod region;
+mod walk;
 
 pub use cuts::{cut_arrow, cut_diagram};
-pub use points::point_region;
+pub use point_regions::point_region;
 pub use preimages::preimage;
 pub use region::Region;
+pub use walk::{PointWalk, points};

@@ -10,7 +10,6 @@ ghost use Rattle.zigzag_maps.specs.Found.{IsValidMap};
 ghost use Rattle.region_cut.specs.OverRegions.{IsOver};
 ghost use Rattle.region_cut.specs.RegionValues.{AreRegionValues, IsClosedIn, IsPreimageOf, IsRegionValue, region_of};
 
-
 use crate::region::Region;
 use hashcons::{AnyId, ArrowId, DiagramId, Store};
 use std::alloc::{AllocError, Global};

@@ -1,7 +1,5 @@
-use Rattle.std.proofs.Common.{rules, sym, ap, ◌∙◌}
-use Rattle.hashcons.specs.Contents.{arrow_at, diagram_at}
+use Rattle.std.proofs.Common.{rules}
 use Rattle.hashcons.proofs.Growth.{Grows-trans}
-use Rattle.region_cut.specs.RegionValues.{IsClosedIn}
 use Rattle.region_cut.proofs.MapCuts.{source_tree, over_map, map_grows, arrow_tree_is, map_cut}
 use Rattle.region_cut.proofs.cuts.cut_arrow.Goals as goal
 
