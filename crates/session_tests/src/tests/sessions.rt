@@ -2,7 +2,7 @@ use session_undo::{NothingToRedo, NothingToUndo, Session};
 use std::alloc::Global;
 use std::process::Abort;
 use std::test::Fail;
-use workspace_json::{FormFault, read_command, reply_text};
+use workspace_json::{read_command, reply_text};
 use workspace_lists::Stats;
 
 /// A command, and the reply to it.
@@ -65,6 +65,13 @@ const CHANGES: [Step; 14] = [
     ),
 ];
 
+/// The text of the reply to a command.
+fn reply_to(alloc: Global, session: &mut Session, command: &str) -> Result<Vec<u8>, Fail> {
+    let command = read_command(alloc, command.as_bytes())?;
+    let reply = session.apply(&command)?;
+    Ok(reply_text(alloc, &reply)?)
+}
+
 /// Whether the session answers a command with this reply.
 pub(crate) fn is_answered(
     alloc: Global,
@@ -72,14 +79,8 @@ pub(crate) fn is_answered(
     command: &str,
     want: &str,
 ) -> Result<bool, Fail> {
-    match read_command(alloc, command.as_bytes()) {
-        Ok(command) => {
-            let reply = session.apply(&command)?;
-            Ok(reply_text(alloc, &reply)?.as_slice() == want.as_bytes())
-        }
-        Err(FormFault::NoMemory) => Err(Fail::from("no memory")),
-        Err(_) => Ok(false),
-    }
+    let reply = reply_to(alloc, session, command)?;
+    Ok(reply.as_slice() == want.as_bytes())
 }
 
 /// A session with these changes.
@@ -132,5 +133,28 @@ fn undoes_and_redoes(rt: HostRuntime) -> Result<(), Fail> {
     let made = "{\"dim\":0,\"name\":\"y\",\"number\":0,\"ok\":\"generator\"}";
     assert!(rt; is_answered(rt.alloc(), &mut session, point, made)?);
     assert_eq!(rt; session.redo(), Err(NothingToRedo));
+    Ok(())
+}
+
+/// The replies of a new session to a command, to the same command, and to it once more when the
+/// first was undone.
+fn replies_again(alloc: Global, command: &str) -> Result<[Vec<u8>; 3], Fail> {
+    let mut session = Session::new(alloc);
+    let first = reply_to(alloc, &mut session, command)?;
+    let second = reply_to(alloc, &mut session, command)?;
+    session.undo().or(Err("nothing to undo"))?;
+    let third = reply_to(alloc, &mut session, command)?;
+    Ok([first, second, third])
+}
+
+#[test]
+fn apply_again(rt: HostRuntime) -> Result<(), Fail> {
+    let point = "{\"do\":\"generator\",\"name\":\"x\"}";
+    let [first, second, third] = replies_again(rt.alloc(), point)?;
+    let made = "{\"dim\":0,\"name\":\"x\",\"number\":0,\"ok\":\"generator\"}";
+    let refused = "{\"refused\":\"NameTaken\"}";
+    assert!(rt; first.as_slice() == made.as_bytes());
+    assert!(rt; second.as_slice() == refused.as_bytes());
+    assert_eq!(rt; third, first);
     Ok(())
 }
