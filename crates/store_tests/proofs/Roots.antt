@@ -32,3 +32,5 @@ more_ids c ids x of is = record { of_store = λ i l. by i (cut i l) }
     by : (i : ℕ) → (i < length ids) ⊎ (length ids ≡ i) → IsOf c (id_at (ids ++ x ∷ []) i)
     by i (inl q) = subst (IsOf c) (sym (get_or_append_left ids (x ∷ []) (id.Diagram 0) i q)) (of.of_store i q)
     by i (inr q) = subst (IsOf c) (sym (get_or_push ids x (id.Diagram 0) i q)) is
+
+pub ruleset root_ids = (no_ids, found_id, more_ids)

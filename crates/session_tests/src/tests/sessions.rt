@@ -138,19 +138,19 @@ fn undoes_and_redoes(rt: HostRuntime) -> Result<(), Fail> {
 
 /// The replies of a new session to a command, to the same command, and to it once more when the
 /// first was undone.
-fn replies_again(alloc: Global, command: &str) -> Result<[Vec<u8>; 3], Fail> {
+fn replies_again(alloc: Global, command: &str) -> Result<(Vec<u8>, Vec<u8>, Vec<u8>), Fail> {
     let mut session = Session::new(alloc);
     let first = reply_to(alloc, &mut session, command)?;
     let second = reply_to(alloc, &mut session, command)?;
-    session.undo().or(Err("nothing to undo"))?;
+    session.undo()?;
     let third = reply_to(alloc, &mut session, command)?;
-    Ok([first, second, third])
+    Ok((first, second, third))
 }
 
 #[test]
 fn apply_again(rt: HostRuntime) -> Result<(), Fail> {
     let point = "{\"do\":\"generator\",\"name\":\"x\"}";
-    let [first, second, third] = replies_again(rt.alloc(), point)?;
+    let (first, second, third) = replies_again(rt.alloc(), point)?;
     let made = "{\"dim\":0,\"name\":\"x\",\"number\":0,\"ok\":\"generator\"}";
     let refused = "{\"refused\":\"NameTaken\"}";
     assert!(rt; first.as_slice() == made.as_bytes());

@@ -1,3 +1,4 @@
+ghost use Rattle.std.specs.Prelude.{IfOk};
 ghost use Rattle.hashcons.specs.Contents.{IsArrowOf};
 
 use super::LOOP;
@@ -16,13 +17,25 @@ fn kept(alloc: Global, nodes: &str) -> Result<Storage, Fail> {
     Ok(store.storage())
 }
 
-/// What it keeps of them and of the identity of the diagram at a place.
-fn kept_with_identity(alloc: Global, nodes: &str, place: usize) -> Result<Storage, Fail> {
+/// Puts these nodes into a store, and the identity of the diagram at a place.
+fn put_identity(
+    alloc: Global,
+    store: &mut Store,
+    nodes: &str,
+    place: usize,
+) -> Result<ArrowId, Fail>
+    ensures { IfOk result (λ a. IsArrowOf store.new a) }
+{
     let document = document_of(alloc, nodes)?;
-    let mut store = Store::new(alloc);
     let ids = store.put_nodes(document.nodes.as_slice())?;
     let d = diagram_at(&ids, place)?;
-    let _ = identity(alloc, &mut store, d)?;
+    Ok(identity(alloc, store, d)?.arrow)
+}
+
+/// What a new store keeps of the nodes and of this identity.
+fn kept_with_identity(alloc: Global, nodes: &str, place: usize) -> Result<Storage, Fail> {
+    let mut store = Store::new(alloc);
+    let _ = put_identity(alloc, &mut store, nodes, place)?;
     Ok(store.storage())
 }
 
@@ -31,7 +44,10 @@ fn kept_with_identity(alloc: Global, nodes: &str, place: usize) -> Result<Storag
 fn put_again(alloc: Global, store: &mut Store, a: ArrowId) -> Result<ArrowId, Fail>
     requires { IsArrowOf store.old a }
 {
-    if store.dim(AnyId::Arrow(a)) == 0 || store.source_len(a) != 1 {
+    if store.dim(AnyId::Arrow(a)) == 0 {
+        return Err(Fail::from("the arrow has no heights"));
+    }
+    if store.source_len(a) != 1 {
         return Err(Fail::from("the source has another length"));
     }
     let heights = SmallVec::from_slice(alloc, &[store.height(a, 0)])?;
@@ -39,21 +55,13 @@ fn put_again(alloc: Global, store: &mut Store, a: ArrowId) -> Result<ArrowId, Fa
     Ok(store.put_arrow_like(a, heights, sings)?)
 }
 
-/// What it keeps of them and of that identity, and when it is put once more, with whether its id is
-/// the same.
-fn kept_with_both(
-    alloc: Global,
-    nodes: &str,
-    place: usize,
-) -> Result<(Storage, Storage, bool), Fail> {
-    let document = document_of(alloc, nodes)?;
+/// What a new store keeps of the nodes and of this identity when it is put once more, and whether it
+/// has the same id then.
+fn kept_again(alloc: Global, nodes: &str, place: usize) -> Result<(Storage, bool), Fail> {
     let mut store = Store::new(alloc);
-    let ids = store.put_nodes(document.nodes.as_slice())?;
-    let d = diagram_at(&ids, place)?;
-    let map = identity(alloc, &mut store, d)?;
-    let before = store.storage();
-    let again = put_again(alloc, &mut store, map.arrow)?;
-    Ok((before, store.storage(), again == map.arrow))
+    let unit = put_identity(alloc, &mut store, nodes, place)?;
+    let again = put_again(alloc, &mut store, unit)?;
+    Ok((store.storage(), again == unit))
 }
 
 const SIXTEEN: &str =
@@ -84,9 +92,6 @@ fn keeps_each_list_and_each_block_once(rt: HostRuntime) -> Result<(), Fail> {
     assert_eq!(rt; kept(alloc, LOOP)?, one);
     assert_eq!(rt; kept_with_identity(alloc, LOOP, 3)?, two);
     assert_eq!(rt; kept(alloc, SIXTEEN)?, long);
-    let (before, after, same) = kept_with_both(alloc, LOOP, 3)?;
-    assert!(rt; same);
-    assert_eq!(rt; before, two);
-    assert_eq!(rt; after, two);
+    assert_eq!(rt; kept_again(alloc, LOOP, 3)?, (two, true));
     Ok(())
 }

@@ -73,7 +73,8 @@ fn put(alloc: Global, nodes: &str) -> Result<(Store, Vec<AnyId>), Fail>
     Ok((store, ids))
 }
 
-/// The ids at these places, which the store has as it has all of them.
+/// The ids at these places.
+#[tactic(auto, using(crate::proofs::Roots::root_ids))]
 fn roots_at(
     alloc: Global,
     store: &Store,
