@@ -16,14 +16,21 @@ use workspace_lists::{Generator, Meaning, Named, Names, Stats, Workspace, docume
 const NODES: &str =
     r#"{"label":[0,0]},{"label":[1,1]},{"labels":[[0,0],[1,1]]},{"bwds":[2],"fwds":[2],"regs":[0,0],"sings":[1]}"#;
 
-/// These nodes in a new store, with the id of each.
-fn put(alloc: Global, nodes: &str) -> Result<(Store, Vec<AnyId>), Fail>
-    ensures { IfOk result (λ held. AreOf held.0 held.1.items) }
+/// What is answered over a new store. A function that has a store of its own is dear to prove, so
+/// this is the only one.
+fn over_new_store<R, F: FnOnce(&mut Store) -> R>(alloc: Global, answer: F) -> R
+    requires { F.IsAlwaysCallable answer }
 {
-    let document = document_of(alloc, nodes)?;
     let mut store = Store::new(alloc);
-    let ids = store.put_nodes(document.nodes.as_slice())?;
-    Ok((store, ids))
+    answer(&mut store)
+}
+
+/// The ids of these nodes.
+fn put(store: &mut Store) -> Result<Vec<AnyId>, Fail>
+    ensures { IfOk result (λ ids. AreOf store.new ids.items) }
+{
+    let document = document_of(store.allocator(), NODES)?;
+    Ok(store.put_nodes(document.nodes.as_slice())?)
 }
 
 /// The diagram at a place of ids of a store, if it is one of this dimension.
@@ -115,18 +122,19 @@ fn text_and_counts(
     Ok((bytes, stats(alloc, store, workspace)?))
 }
 
-/// The text of the workspace over x and x -> f <- x in a new store, and its counts.
-fn written(alloc: Global) -> Result<(Vec<u8>, Stats), Fail> {
-    let (store, ids) = put(alloc, NODES)?;
-    let x = diagram_in(&store, &ids, 0, 0).ok_or("no point")?;
-    let d = diagram_in(&store, &ids, 3, 1).ok_or("no diagram")?;
-    let workspace = sample(alloc, &store, x, d)?;
-    Ok(text_and_counts(alloc, &store, &workspace)?)
+/// The text of the workspace over x and x -> f <- x, and its counts.
+fn written(store: &mut Store) -> Result<(Vec<u8>, Stats), Fail> {
+    let alloc = store.allocator();
+    let ids = put(store)?;
+    let x = diagram_in(store, &ids, 0, 0).ok_or("no point")?;
+    let d = diagram_in(store, &ids, 3, 1).ok_or("no diagram")?;
+    let workspace = sample(alloc, store, x, d)?;
+    Ok(text_and_counts(alloc, store, &workspace)?)
 }
 
 #[test]
 fn writes_and_counts(rt: HostRuntime) -> Result<(), Fail> {
-    let (bytes, counts) = written(rt.alloc())?;
+    let (bytes, counts) = over_new_store(rt.alloc(), written)?;
     let text =
         "{\"diagrams\":[{\"name\":\"d\",\"root\":3}],\"format\":1,\"generators\":[{\"name\":\"x\"},{\"name\":\"f\",\"source\":0,\"target\":0}],\"maps\":[],\"nodes\":[{\"label\":[0,0]},{\"label\":[1,1]},{\"labels\":[[0,0],[1,1]]},{\"bwds\":[2],\"fwds\":[2],\"regs\":[0,0],\"sings\":[1]}]}";
     assert!(rt; bytes.as_slice() == text.as_bytes());

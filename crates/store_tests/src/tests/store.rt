@@ -2,7 +2,7 @@ ghost use Rattle.std.specs.Prelude.{IfOk};
 ghost use Rattle.hashcons.specs.Contents.{Grows, IsArrowOf, IsDiagramOf};
 ghost use Rattle.hashcons.specs.Listing.{AreOf};
 
-use super::LOOP;
+use super::{LOOP, over_new_store};
 use diagram_terms::{Label, Node};
 use hashcons::{AnyId, ArrowId, DiagramId, Store, same};
 use std::alloc::{AllocError, Global};
@@ -39,10 +39,9 @@ fn are_loop_nodes(nodes: &[Node]) -> bool {
         && bwds.as_slice() == [2].as_slice()
 }
 
-/// The ids of some nodes that a new store was given twice.
-fn put_twice(alloc: Global, nodes: &str) -> Result<(Vec<AnyId>, Vec<AnyId>), Fail> {
-    let document = document_of(alloc, nodes)?;
-    let mut store = Store::new(alloc);
+/// The ids of the nodes of the loop, and their ids when they are put again.
+fn put_twice(store: &mut Store) -> Result<(Vec<AnyId>, Vec<AnyId>), Fail> {
+    let document = document_of(store.allocator(), LOOP)?;
     let ids = store.put_nodes(document.nodes.as_slice())?;
     let again = store.put_nodes(document.nodes.as_slice())?;
     Ok((ids, again))
@@ -55,7 +54,7 @@ fn same_at(ids: &[AnyId], place: usize, others: &[AnyId], other: usize) -> Optio
 
 #[test]
 fn puts_each_node_once(rt: HostRuntime) -> Result<(), Fail> {
-    let (ids, again) = put_twice(rt.alloc(), LOOP)?;
+    let (ids, again) = over_new_store(rt.alloc(), put_twice)?;
     assert_eq!(rt; ids.len(), 4);
     assert_eq!(rt; ids.as_slice(), again.as_slice());
     assert_eq!(rt; same_at(&ids, 3, &again, 3), Some(true));
@@ -63,28 +62,21 @@ fn puts_each_node_once(rt: HostRuntime) -> Result<(), Fail> {
     Ok(())
 }
 
-/// The nodes of a document in a new store, with the id of each.
-fn put(alloc: Global, nodes: &str) -> Result<(Store, Vec<AnyId>), Fail>
-    ensures { IfOk result (λ held. AreOf held.0 held.1.items) }
+/// The ids of the nodes of the loop.
+fn put(store: &mut Store) -> Result<Vec<AnyId>, Fail>
+    ensures { IfOk result (λ ids. AreOf store.new ids.items) }
 {
-    let document = document_of(alloc, nodes)?;
-    let mut store = Store::new(alloc);
-    let ids = store.put_nodes(document.nodes.as_slice())?;
-    Ok((store, ids))
+    let document = document_of(store.allocator(), LOOP)?;
+    Ok(store.put_nodes(document.nodes.as_slice())?)
 }
 
 /// The ids at these places.
 #[tactic(auto, using(crate::proofs::Roots::root_ids))]
-fn roots_at(
-    alloc: Global,
-    store: &Store,
-    ids: &[AnyId],
-    places: &[usize],
-) -> Result<Vec<AnyId>, Fail>
+fn roots_at(store: &Store, ids: &[AnyId], places: &[usize]) -> Result<Vec<AnyId>, Fail>
     requires { AreOf store.now ids.now }
     ensures { IfOk result (λ roots. AreOf store.now roots.items) }
 {
-    let mut roots = Vec::new(alloc);
+    let mut roots = Vec::new(store.allocator());
     for place in places {
         let Some(id) = ids.get(*place) else {
             return Err(Fail::from("nothing stands at the place"));
@@ -94,20 +86,39 @@ fn roots_at(
     Ok(roots)
 }
 
-/// What a new store lists of some nodes, from the ones at these places.
-fn listed(alloc: Global, nodes: &str, places: &[usize]) -> Result<(Vec<Node>, Vec<usize>), Fail> {
-    let (store, ids) = put(alloc, nodes)?;
-    let roots = roots_at(alloc, &store, &ids, places)?;
-    Ok(store.list(&roots)?)
+/// What is listed, and how many ids were put.
+#[derive(Drop)]
+struct Listed {
+    nodes: Vec<Node>,
+    places: Vec<usize>,
+    put: usize,
+}
+
+/// What the store lists of the loop, from the ids at these places.
+fn list_from(store: &mut Store, from: &[usize]) -> Result<Listed, Fail> {
+    let ids = put(store)?;
+    let roots = roots_at(store, &ids, from)?;
+    let (nodes, places) = store.list(&roots)?;
+    Ok(Listed {
+        nodes,
+        places,
+        put: ids.len(),
+    })
+}
+
+/// What a new store lists of the loop, from the ids at these places.
+fn list_loop(alloc: Global, from: &[usize]) -> Result<Listed, Fail> {
+    over_new_store(alloc, |store| list_from(store, from))
 }
 
 #[test]
 fn lists_subtrees_as_they_are_completed(rt: HostRuntime) -> Result<(), Fail> {
-    let (nodes, places) = listed(rt.alloc(), LOOP, &[3])?;
-    assert!(rt; are_loop_nodes(&nodes));
-    assert_eq!(rt; places.as_slice(), [3].as_slice());
-    let (_, places) = listed(rt.alloc(), LOOP, &[2, 3, 0])?;
-    assert_eq!(rt; places.as_slice(), [0, 3, 1].as_slice());
+    let whole = list_loop(rt.alloc(), &[3])?;
+    assert_eq!(rt; whole.put, 4);
+    assert!(rt; are_loop_nodes(&whole.nodes));
+    assert_eq!(rt; whole.places.as_slice(), [3].as_slice());
+    let three = list_loop(rt.alloc(), &[2, 3, 0])?;
+    assert_eq!(rt; three.places.as_slice(), [0, 3, 1].as_slice());
     Ok(())
 }
 
@@ -144,19 +155,19 @@ fn parts_of(store: &Store, d: DiagramId, a: ArrowId) -> Parts
     }
 }
 
-/// The ids of both in a new store, their ids when they are put again, and what is then read of them.
+/// The ids of both, their ids when they are put again, and what is then read of them.
+#[tactic(auto, using(hashcons::proofs::Growth::growth))]
 fn put_both_twice(
-    alloc: Global,
+    store: &mut Store,
 ) -> Result<((DiagramId, ArrowId), (DiagramId, ArrowId), Parts), AllocError> {
-    let mut store = Store::new(alloc);
-    let first = put_both(&mut store)?;
-    let again = put_both(&mut store)?;
-    Ok((first, again, parts_of(&store, first.0, first.1)))
+    let first = put_both(store)?;
+    let again = put_both(store)?;
+    Ok((first, again, parts_of(store, first.0, first.1)))
 }
 
 #[test]
 fn reads_what_was_put(rt: HostRuntime) -> Result<(), Fail> {
-    let ((f, leg), (f_again, leg_again), parts) = put_both_twice(rt.alloc())?;
+    let ((f, leg), (f_again, leg_again), parts) = over_new_store(rt.alloc(), put_both_twice)?;
     assert_eq!(rt; f, f_again);
     assert_eq!(rt; leg, leg_again);
     assert_eq!(rt; parts.label, Some(F));
