@@ -1,29 +1,36 @@
--- Ids that were put into a store may be the roots of a listing.
-use Rattle.std.proofs.Common.{◌≡◌, ℕ, zero, suc, ◌<◌, List, [], ◌∷◌, length, get_or, arith}
+-- Ids of a store that may be the roots of a listing.
+use Rattle.std.proofs.Common.{◌≡◌, ◌∙◌, ℕ, zero, suc, ◌<◌, ◌+◌, List, [], ◌∷◌, ◌++◌, length, get_or, slice_get, Some, refl, sym, ap, subst, arith, inl, inr, ◌⊎◌}
+use Rattle.std.proofs.lemmas.List.{length_push, get_or_append_left, get_or_push}
+use Rattle.std.proofs.lemmas.Option.{get_or_from_slice_get, slice_get_within}
 use Rattle.diagram_terms.specs.Tree.{Tree}
 use Rattle.hashcons.specs.declared.id.AnyId.{AnyId}
+use Rattle.hashcons.specs.declared.id.AnyId.TheVariants as id
 use Rattle.hashcons.specs.Contents.{Contents}
 use Rattle.hashcons.specs.Ids.{IsOf, GathersIds, id_at}
 use Rattle.hashcons.specs.Listing.{AreOf}
-use Rattle.store_fixtures.proofs.PlacedIds.{read_id_of_store}
 
-at_one : (c : Contents) (x : AnyId) → IsOf c x → (i : ℕ) → i < length (x ∷ []) → IsOf c (id_at (x ∷ []) i)
-at_one c x h zero l = h
-at_one c x h (suc i) l = absurd (omega arith)
+-- ids that were put
+pub gathered_ids : (c : Contents) (ids : List AnyId) (n : ℕ) (f : ℕ → Tree) → GathersIds c ids n f → AreOf c ids
+gathered_ids c ids n f g = record { of_store = λ i l. g.of_store i (let k = g.len in omega arith) }
 
-at_three : (c : Contents) (x y z : AnyId) → IsOf c x → IsOf c y → IsOf c z → (i : ℕ) → i < length (x ∷ y ∷ z ∷ [])
-    → IsOf c (id_at (x ∷ y ∷ z ∷ []) i)
-at_three c x y z h k m zero l = h
-at_three c x y z h k m (suc zero) l = k
-at_three c x y z h k m (suc (suc zero)) l = m
-at_three c x y z h k m (suc (suc (suc i))) l = absurd (omega arith)
+pub no_ids : (c : Contents) → AreOf c []
+no_ids c = record { of_store = λ i l. absurd (omega (arith, l)) }
 
-module _ (c : Contents) (ids : List AnyId) (n : ℕ) (f : ℕ → Tree) (held : GathersIds c ids n f) where
-  pub one_root : (i : ℕ) (x : AnyId) → i < length ids → x ≡ get_or ids i x → AreOf c (x ∷ [])
-  one_root i x l e = record { of_store = at_one c x (read_id_of_store c ids n f held i x l e) }
+-- an id among them
+pub found_id : (c : Contents) (ids : List AnyId) (i : ℕ) (x : AnyId) → AreOf c ids → slice_get ids i ≡ Some x → IsOf c x
+found_id c ids i x of is =
+    let within : i < length ids = slice_get_within ids i x is in
+    subst (IsOf c) (get_or_from_slice_get ids i x (id.Diagram 0) is) (of.of_store i within)
 
-  pub three_roots : (i j k : ℕ) (x y z : AnyId) → i < length ids → j < length ids → k < length ids
-      → x ≡ get_or ids i x → y ≡ get_or ids j y → z ≡ get_or ids k z → AreOf c (x ∷ y ∷ z ∷ [])
-  three_roots i j k x y z l l' l'' e e' e'' = record {
-    of_store = at_three c x y z (read_id_of_store c ids n f held i x l e) (read_id_of_store c ids n f held j y l' e') (read_id_of_store c ids n f held k z l'' e'');
-  }
+-- one id more
+pub more_ids : (c : Contents) (ids : List AnyId) (x : AnyId) → AreOf c ids → IsOf c x → AreOf c (ids ++ x ∷ [])
+more_ids c ids x of is = record { of_store = λ i l. by i (cut i l) }
+  where
+    cut : (i : ℕ) → i < length (ids ++ x ∷ []) → (i < length ids) ⊎ (length ids ≡ i)
+    cut i l = let k = length_push ids x in grind (arith, k, l)
+
+    by : (i : ℕ) → (i < length ids) ⊎ (length ids ≡ i) → IsOf c (id_at (ids ++ x ∷ []) i)
+    by i (inl q) = subst (IsOf c) (sym (get_or_append_left ids (x ∷ []) (id.Diagram 0) i q)) (of.of_store i q)
+    by i (inr q) = subst (IsOf c) (sym (get_or_push ids x (id.Diagram 0) i q)) is
+
+pub ruleset root_ids = (no_ids, found_id, more_ids)

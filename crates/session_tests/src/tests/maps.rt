@@ -1,5 +1,4 @@
-use crate::tests::sessions::{Step, is_answered};
-use session_undo::Session;
+use crate::tests::sessions::{Step, first_other, over_new_session};
 use std::test::Fail;
 
 /// The identity map of a point is brought, composed with itself and dropped, which is undone, redone and
@@ -61,12 +60,8 @@ const MAPS: [Step; 15] = [
 
 #[test]
 fn maps_are_brought_and_dropped(rt: HostRuntime) -> Result<(), Fail> {
-    let mut session = Session::new(rt.alloc());
-    for (command, want) in &MAPS {
-        assert!(rt;
-            is_answered(rt.alloc(), &mut session, command, want)?,
-            "{command}"
-        );
-    }
+    let alloc = rt.alloc();
+    let other = over_new_session(alloc, |session| first_other(alloc, session, &MAPS))?;
+    assert_eq!(rt; other, None);
     Ok(())
 }

@@ -1,8 +1,7 @@
 use session_undo::{NothingToRedo, NothingToUndo, Session};
-use std::alloc::Global;
-use std::process::Abort;
+use std::alloc::{AllocError, Global};
 use std::test::Fail;
-use workspace_json::{FormFault, read_command, reply_text};
+use workspace_json::{read_command, reply_text};
 use workspace_lists::Stats;
 
 /// A command, and the reply to it.
@@ -65,41 +64,79 @@ const CHANGES: [Step; 14] = [
     ),
 ];
 
-/// Whether the session answers a command with this reply.
-pub(crate) fn is_answered(
-    alloc: Global,
-    session: &mut Session,
-    command: &str,
-    want: &str,
-) -> Result<bool, Fail> {
-    match read_command(alloc, command.as_bytes()) {
-        Ok(command) => {
-            let reply = session.apply(&command)?;
-            Ok(reply_text(alloc, &reply)?.as_slice() == want.as_bytes())
-        }
-        Err(FormFault::NoMemory) => Err(Fail::from("no memory")),
-        Err(_) => Ok(false),
-    }
+/// A command that makes a point.
+const POINT: Step = (
+    "{\"do\":\"generator\",\"name\":\"y\"}",
+    "{\"dim\":0,\"name\":\"y\",\"number\":0,\"ok\":\"generator\"}",
+);
+
+/// What is answered over a new session. A function that has a session of its own is dear to prove, so
+/// this is the only one.
+pub(crate) fn over_new_session<R, F: FnOnce(&mut Session) -> R>(alloc: Global, answer: F) -> R
+    requires { F.IsAlwaysCallable answer }
+{
+    let mut session = Session::new(alloc);
+    answer(&mut session)
 }
 
-/// A session with these changes.
-fn changed(rt: &(impl Abort + AllocGlobal)) -> Result<Session, Fail> {
-    let mut session = Session::new(rt.alloc());
-    for (command, want) in &CHANGES {
-        assert!(rt;
-            is_answered(rt.alloc(), &mut session, command, want)?,
-            "{command}"
-        );
+/// The text of the reply to a command.
+fn reply_to(alloc: Global, session: &mut Session, command: &str) -> Result<Vec<u8>, Fail> {
+    let command = read_command(alloc, command.as_bytes())?;
+    let reply = session.apply(&command)?;
+    Ok(reply_text(alloc, &reply)?)
+}
+
+/// The place of the first of these steps whose reply is another one.
+pub(crate) fn first_other(
+    alloc: Global,
+    session: &mut Session,
+    steps: &[Step],
+) -> Result<Option<usize>, Fail> {
+    for (place, (command, want)) in steps.iter().enumerate() {
+        let reply = reply_to(alloc, session, command)?;
+        if reply.as_slice() != want.as_bytes() {
+            return Ok(Some(place));
+        }
     }
-    Ok(session)
+    Ok(None)
+}
+
+/// What is read of a session.
+#[derive(Clone, Copy)]
+struct Read {
+    loop_and_f: Option<bool>,
+    loop_and_itself: Option<bool>,
+    loop_and_end: Option<bool>,
+    counts: Stats,
+    generators: usize,
+    diagrams: usize,
+}
+
+fn read_of(session: &Session) -> Result<Read, AllocError> {
+    Ok(Read {
+        loop_and_f: session.equal("loop", "f"),
+        loop_and_itself: session.equal("loop", "loop"),
+        loop_and_end: session.equal("loop", "end"),
+        counts: session.stats()?,
+        generators: session.workspace().generators.len(),
+        diagrams: session.workspace().diagrams.len(),
+    })
+}
+
+/// Which change was answered otherwise, and what is read after the changes.
+fn read_changed(alloc: Global, session: &mut Session) -> Result<(Option<usize>, Read), Fail> {
+    let other = first_other(alloc, session, &CHANGES)?;
+    Ok((other, read_of(session)?))
 }
 
 #[test]
 fn changes_and_reads(rt: HostRuntime) -> Result<(), Fail> {
-    let session = changed(&rt)?;
-    assert_eq!(rt; session.equal("loop", "f"), Some(false));
-    assert_eq!(rt; session.equal("loop", "loop"), Some(true));
-    assert_eq!(rt; session.equal("loop", "end"), None);
+    let alloc = rt.alloc();
+    let (other, read) = over_new_session(alloc, |session| read_changed(alloc, session))?;
+    assert_eq!(rt; other, None);
+    assert_eq!(rt; read.loop_and_f, Some(false));
+    assert_eq!(rt; read.loop_and_itself, Some(true));
+    assert_eq!(rt; read.loop_and_end, None);
     let counts = Stats {
         generators: 3,
         named: 1,
@@ -107,30 +144,122 @@ fn changes_and_reads(rt: HostRuntime) -> Result<(), Fail> {
         diagrams: 4,
         arrows: 1,
     };
-    assert_eq!(rt; session.stats()?, counts);
-    assert_eq!(rt; session.workspace().generators.len(), 3);
-    assert_eq!(rt; session.workspace().diagrams.len(), 1);
+    assert_eq!(rt; read.counts, counts);
+    assert_eq!(rt; read.generators, 3);
+    assert_eq!(rt; read.diagrams, 1);
     Ok(())
+}
+
+/// What is answered while two changes are undone and one is redone.
+#[derive(Clone, Copy)]
+struct Turns {
+    too_early: Result<(), NothingToRedo>,
+    first: Result<(), NothingToUndo>,
+    end_and_point: Option<bool>,
+    second: Result<(), NothingToUndo>,
+    undone_cell: Option<bool>,
+    again: Result<(), NothingToRedo>,
+    redone_cell: Option<bool>,
+}
+
+fn turn(session: &mut Session) -> Turns {
+    let too_early = session.redo();
+    let first = session.undo();
+    let end_and_point = session.equal("end", "x");
+    let second = session.undo();
+    let undone_cell = session.equal("a", "a");
+    let again = session.redo();
+    let redone_cell = session.equal("a", "a");
+    Turns {
+        too_early,
+        first,
+        end_and_point,
+        second,
+        undone_cell,
+        again,
+        redone_cell,
+    }
+}
+
+/// Whether each of six undos took a change back.
+fn undo_six_times(alloc: Global, session: &mut Session) -> Result<Vec<bool>, AllocError> {
+    let mut taken_back = Vec::new(alloc);
+    for _ in 0..6 {
+        taken_back.push(session.undo().is_ok())?;
+    }
+    Ok(taken_back)
+}
+
+/// What is left when everything is undone, and what is answered to a point then and to a redo after it.
+#[derive(Drop)]
+struct Anew {
+    taken_back: Vec<bool>,
+    generators: usize,
+    reply: Vec<u8>,
+    redone: Result<(), NothingToRedo>,
+}
+
+fn begin_anew(alloc: Global, session: &mut Session) -> Result<Anew, Fail> {
+    let taken_back = undo_six_times(alloc, session)?;
+    let generators = session.workspace().generators.len();
+    let reply = reply_to(alloc, session, POINT.0)?;
+    let redone = session.redo();
+    Ok(Anew {
+        taken_back,
+        generators,
+        reply,
+        redone,
+    })
+}
+
+/// Which change was answered otherwise, and what is answered to turns after the changes.
+fn turn_changed(
+    alloc: Global,
+    session: &mut Session,
+) -> Result<(Option<usize>, Turns, Anew), Fail> {
+    let other = first_other(alloc, session, &CHANGES)?;
+    let turns = turn(session);
+    Ok((other, turns, begin_anew(alloc, session)?))
 }
 
 #[test]
 fn undoes_and_redoes(rt: HostRuntime) -> Result<(), Fail> {
-    let mut session = changed(&rt)?;
-    assert_eq!(rt; session.redo(), Err(NothingToRedo));
-    assert_eq!(rt; session.undo(), Ok(()));
-    assert_eq!(rt; session.equal("end", "x"), Some(true));
-    assert_eq!(rt; session.undo(), Ok(()));
-    assert_eq!(rt; session.equal("a", "a"), None);
-    assert_eq!(rt; session.redo(), Ok(()));
-    assert_eq!(rt; session.equal("a", "a"), Some(true));
-    for _ in 0..5 {
-        assert_eq!(rt; session.undo(), Ok(()));
-    }
-    assert_eq!(rt; session.undo(), Err(NothingToUndo));
-    assert_eq!(rt; session.workspace().generators.len(), 0);
-    let point = "{\"do\":\"generator\",\"name\":\"y\"}";
-    let made = "{\"dim\":0,\"name\":\"y\",\"number\":0,\"ok\":\"generator\"}";
-    assert!(rt; is_answered(rt.alloc(), &mut session, point, made)?);
-    assert_eq!(rt; session.redo(), Err(NothingToRedo));
+    let alloc = rt.alloc();
+    let (other, turns, anew) = over_new_session(alloc, |session| turn_changed(alloc, session))?;
+    assert_eq!(rt; other, None);
+    assert_eq!(rt; turns.too_early, Err(NothingToRedo));
+    assert_eq!(rt; turns.first, Ok(()));
+    assert_eq!(rt; turns.end_and_point, Some(true));
+    assert_eq!(rt; turns.second, Ok(()));
+    assert_eq!(rt; turns.undone_cell, None);
+    assert_eq!(rt; turns.again, Ok(()));
+    assert_eq!(rt; turns.redone_cell, Some(true));
+    assert_eq!(rt;
+        anew.taken_back.as_slice(),
+        [true, true, true, true, true, false].as_slice()
+    );
+    assert_eq!(rt; anew.generators, 0);
+    assert!(rt; anew.reply.as_slice() == POINT.1.as_bytes());
+    assert_eq!(rt; anew.redone, Err(NothingToRedo));
+    Ok(())
+}
+
+/// The text of the reply to a command, which is applied once more where the first time found no
+/// memory.
+fn reply_at_last(alloc: Global, session: &mut Session, command: &str) -> Result<Vec<u8>, Fail> {
+    let command = read_command(alloc, command.as_bytes())?;
+    let reply = match session.apply(&command) {
+        Ok(reply) => reply,
+        Err(_) => session.apply(&command)?,
+    };
+    Ok(reply_text(alloc, &reply)?)
+}
+
+#[test]
+fn apply_again(rt: HostRuntime) -> Result<(), Fail> {
+    let alloc = rt.alloc();
+    let (command, usual) = CHANGES[0];
+    let reply = over_new_session(alloc, |session| reply_at_last(alloc, session, command))?;
+    assert!(rt; reply.as_slice() == usual.as_bytes());
     Ok(())
 }

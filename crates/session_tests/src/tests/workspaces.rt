@@ -1,40 +1,36 @@
 ghost use Rattle.std.specs.Prelude.{◌≡◌, IfOk, IfSome};
 ghost use Rattle.diagram_terms.specs.Dimension.{dimension_of};
-ghost use Rattle.diagram_terms.specs.Nodes.{AreNodes};
 ghost use Rattle.hashcons.specs.Contents.{IsDiagramOf, diagram_at};
 ghost use Rattle.hashcons.specs.Listing.{AreOf};
 ghost use Rattle.workspace_lists.specs.Held.{IsHeld};
 
-use diagram_terms::{Items, Label, Node, Text};
+use diagram_terms::Text;
 use hashcons::{AnyId, DiagramId, Store};
 use std::alloc::{AllocError, Global};
 use std::test::Fail;
+use store_fixtures::document_of;
 use workspace_json::document_text;
 use workspace_lists::{Generator, Meaning, Named, Names, Stats, Workspace, document, stats};
 
-const X: Label = Label { number: 0, dim: 0 };
-
-const F: Label = Label { number: 1, dim: 1 };
-
 /// The nodes of x, f, (x, f) and x -> f <- x.
-fn type_nodes(alloc: Global) -> Result<Vec<Node>, AllocError>
-    ensures { IfOk result (λ nodes. AreNodes nodes.items) }
+const NODES: &str =
+    r#"{"label":[0,0]},{"label":[1,1]},{"labels":[[0,0],[1,1]]},{"bwds":[2],"fwds":[2],"regs":[0,0],"sings":[1]}"#;
+
+/// What is answered over a new store. A function that has a store of its own is dear to prove, so
+/// this is the only one.
+fn over_new_store<R, F: FnOnce(&mut Store) -> R>(alloc: Global, answer: F) -> R
+    requires { F.IsAlwaysCallable answer }
 {
-    let regs = Items::from_slice(alloc, &[0, 0])?;
-    let sings = Items::from_slice(alloc, &[1])?;
-    let fwds = Items::from_slice(alloc, &[2])?;
-    let bwds = Items::from_slice(alloc, &[2])?;
-    let mut nodes = Vec::new(alloc);
-    nodes.push(Node::Label(X))?;
-    nodes.push(Node::Label(F))?;
-    nodes.push(Node::Labels(X, F))?;
-    nodes.push(Node::Diagram {
-        regs,
-        sings,
-        fwds,
-        bwds,
-    })?;
-    Ok(nodes)
+    let mut store = Store::new(alloc);
+    answer(&mut store)
+}
+
+/// The ids of these nodes.
+fn put(store: &mut Store) -> Result<Vec<AnyId>, Fail>
+    ensures { IfOk result (λ ids. AreOf store.new ids.items) }
+{
+    let document = document_of(store.allocator(), NODES)?;
+    Ok(store.put_nodes(document.nodes.as_slice())?)
 }
 
 /// The diagram at a place of ids of a store, if it is one of this dimension.
@@ -113,26 +109,42 @@ fn names_take_meanings(rt: HostRuntime) -> Result<(), Fail> {
     Ok(())
 }
 
+/// The text of a workspace, and its counts.
+fn text_and_counts(
+    alloc: Global,
+    store: &Store,
+    workspace: &Workspace,
+) -> Result<(Vec<u8>, Stats), AllocError>
+    requires { IsHeld store.now workspace.now }
+{
+    let written = document(alloc, store, workspace)?;
+    let bytes = document_text(alloc, &written)?;
+    Ok((bytes, stats(alloc, store, workspace)?))
+}
+
+/// The text of the workspace over x and x -> f <- x, and its counts.
+fn written(store: &mut Store) -> Result<(Vec<u8>, Stats), Fail> {
+    let alloc = store.allocator();
+    let ids = put(store)?;
+    let x = diagram_in(store, &ids, 0, 0).ok_or("no point")?;
+    let d = diagram_in(store, &ids, 3, 1).ok_or("no diagram")?;
+    let workspace = sample(alloc, store, x, d)?;
+    Ok(text_and_counts(alloc, store, &workspace)?)
+}
+
 #[test]
 fn writes_and_counts(rt: HostRuntime) -> Result<(), Fail> {
-    let mut store = Store::new(rt.alloc());
-    let nodes = type_nodes(rt.alloc())?;
-    let ids = store.put_nodes(&nodes)?;
-    let x = diagram_in(&store, &ids, 0, 0).ok_or("no point")?;
-    let d = diagram_in(&store, &ids, 3, 1).ok_or("no diagram")?;
-    let workspace = sample(rt.alloc(), &store, x, d)?;
-    let written = document(rt.alloc(), &store, &workspace)?;
-    let bytes = document_text(rt.alloc(), &written)?;
+    let (bytes, counts) = over_new_store(rt.alloc(), written)?;
     let text =
         "{\"diagrams\":[{\"name\":\"d\",\"root\":3}],\"format\":1,\"generators\":[{\"name\":\"x\"},{\"name\":\"f\",\"source\":0,\"target\":0}],\"maps\":[],\"nodes\":[{\"label\":[0,0]},{\"label\":[1,1]},{\"labels\":[[0,0],[1,1]]},{\"bwds\":[2],\"fwds\":[2],\"regs\":[0,0],\"sings\":[1]}]}";
     assert!(rt; bytes.as_slice() == text.as_bytes());
-    let counts = Stats {
+    let want = Stats {
         generators: 2,
         named: 1,
         maps: 0,
         diagrams: 3,
         arrows: 1,
     };
-    assert_eq!(rt; stats(rt.alloc(), &store, &workspace)?, counts);
+    assert_eq!(rt; counts, want);
     Ok(())
 }
