@@ -8,7 +8,7 @@ use hashcons::{AnyId, Store};
 use std::alloc::Global;
 use std::test::Fail;
 use store_fixtures::{arrow_at, diagram_at, document_of};
-use zigzag_maps::{Map, SquareTest, squares, valid};
+use zigzag_maps::{Map, SquareTest, identity, squares, valid};
 
 /// The map at these places of the nodes of a document: its source, its target and its arrow.
 #[tactic(auto, using(hashcons::proofs::Growth::growth))]
@@ -72,6 +72,22 @@ pub(crate) fn map_of(
     Ok(map)
 }
 
+/// The maps at two places, which have to be valid.
+pub(crate) fn maps_of(
+    alloc: Global,
+    store: &mut Store,
+    nodes: &str,
+    one: (usize, usize, usize),
+    other: (usize, usize, usize),
+) -> Result<(Map, Map), Fail>
+    ensures one { IfOk result (λ maps. IsValidMap store.new maps.0) }
+    ensures other { IfOk result (λ maps. IsValidMap store.new maps.1) }
+{
+    let one = map_of(alloc, store, nodes, one)?;
+    let other = map_of(alloc, store, nodes, other)?;
+    Ok((one, other))
+}
+
 /// Fails if a map is no degeneracy.
 fn check_degeneracy(alloc: Global, store: &mut Store, map: Map) -> Result<(), Fail>
     requires { IsValidMap store.old map }
@@ -104,9 +120,20 @@ pub(crate) fn factor_of(
     Ok(factor(alloc, store, f, d)?)
 }
 
+/// Whether the factor of a degeneracy through itself is the identity of its source.
+#[tactic(auto, using(degeneracy::proofs::DegeneraciesInStore::degenerating))]
+pub(crate) fn has_unit_factor(alloc: Global, store: &mut Store, map: &Map) -> Result<bool, Fail>
+    requires { IsValidMap store.old map.now }
+{
+    let source = map.source;
+    let found = factor_of(alloc, store, *map, *map)?;
+    let unit = identity(alloc, store, source)?;
+    Ok(found == Some(unit))
+}
+
 /// The two parts of a degeneracy, which has to be above dimension 0.
 #[tactic(auto, using(degeneracy::proofs::DegeneraciesInStore::degenerating))]
-pub(crate) fn parts_of(alloc: Global, store: &mut Store, d: Map) -> Result<(Map, Map), Fail>
+fn parts_of(alloc: Global, store: &mut Store, d: Map) -> Result<(Map, Map), Fail>
     requires { IsValidMap store.old d }
     ensures { Grows store.old store.new }
 {
@@ -115,4 +142,27 @@ pub(crate) fn parts_of(alloc: Global, store: &mut Store, d: Map) -> Result<(Map,
         return Err(Fail::from("the map has dimension 0"));
     }
     Ok(split(alloc, store, d)?)
+}
+
+/// Whether the parts of a degeneracy are itself and an identity: it first if it is simple, and else last.
+#[tactic(auto, using(degeneracy::proofs::DegeneraciesInStore::degenerating))]
+pub(crate) fn has_parts(
+    alloc: Global,
+    store: &mut Store,
+    map: &Map,
+    is_simple: bool,
+) -> Result<bool, Fail>
+    requires { IsValidMap store.old map.now }
+{
+    let source = map.source;
+    let target = map.target;
+    let arrow = map.arrow;
+    let (first, second) = parts_of(alloc, store, *map)?;
+    let before = identity(alloc, store, source)?;
+    let behind = identity(alloc, store, target)?;
+    if is_simple {
+        Ok(first.arrow == arrow && second.arrow == behind.arrow)
+    } else {
+        Ok(first.arrow == before.arrow && second.arrow == arrow)
+    }
 }

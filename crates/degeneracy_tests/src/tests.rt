@@ -1,8 +1,9 @@
-use crate::stored::{factor_of, map_of, parts_of};
+use crate::stored::{factor_of, has_parts, has_unit_factor, map_of, maps_of};
 use degeneracy::is_degeneracy;
 use hashcons::Store;
+use std::alloc::Global;
 use std::test::Fail;
-use zigzag_maps::identity;
+use zigzag_maps::Map;
 
 /// x -> f <- x at place 3, T = x -> x <- x -> f <- x at place 7, and at place 6 the map from the
 /// first into T, to its second height. x -> x <- x at place 8, and at place 9 its map into T, to the
@@ -19,46 +20,71 @@ const FIRST: (usize, usize, usize) = (8, 7, 9);
 
 const ABOVE: (usize, usize, usize) = (10, 11, 12);
 
+/// What is answered over a new store. A function that has a store of its own is dear to prove, so
+/// this is the only one.
+fn over_new_store<R, F: FnOnce(&mut Store) -> R>(alloc: Global, answer: F) -> R
+    requires { F.IsAlwaysCallable answer }
+{
+    let mut store = Store::new(alloc);
+    answer(&mut store)
+}
+
+fn is_told(store: &mut Store, places: (usize, usize, usize)) -> Result<bool, Fail> {
+    let alloc = store.allocator();
+    let map = map_of(alloc, store, NODES, places)?;
+    Ok(is_degeneracy(alloc, store, map)?)
+}
+
 #[test]
 fn degeneracies_are_told(rt: HostRuntime) -> Result<(), Fail> {
     for (places, want) in [(SECOND, true), (FIRST, false), (ABOVE, true)] {
-        let mut store = Store::new(rt.alloc());
-        let map = map_of(rt.alloc(), &mut store, NODES, places)?;
-        assert_eq!(rt; is_degeneracy(rt.alloc(), &mut store, map)?, want);
+        let told = over_new_store(rt.alloc(), |store| is_told(store, places))?;
+        assert_eq!(rt; told, want);
     }
     Ok(())
 }
 
-#[test]
-#[tactic(auto, using(degeneracy::proofs::DegeneraciesInStore::degenerating))]
-fn factors_are_found(rt: HostRuntime) -> Result<(), Fail> {
-    let mut store = Store::new(rt.alloc());
-    let first = map_of(rt.alloc(), &mut store, NODES, FIRST)?;
-    let second = map_of(rt.alloc(), &mut store, NODES, SECOND)?;
-    let unit = identity(rt.alloc(), &mut store, second.source)?;
-    assert_eq!(rt;
-        factor_of(rt.alloc(), &mut store, second, second)?,
-        Some(unit)
-    );
-    assert_eq!(rt; factor_of(rt.alloc(), &mut store, first, second)?, None);
-    Ok(())
+fn factor_of_first(store: &mut Store) -> Result<Option<Map>, Fail> {
+    let alloc = store.allocator();
+    let (first, second) = maps_of(alloc, store, NODES, FIRST, SECOND)?;
+    factor_of(alloc, store, first, second)
 }
 
 #[test]
-#[tactic(auto, using(degeneracy::proofs::DegeneraciesInStore::degenerating))]
-fn parts_come_in_order(rt: HostRuntime) -> Result<(), Fail> {
-    let mut store = Store::new(rt.alloc());
-    let simple = map_of(rt.alloc(), &mut store, NODES, SECOND)?;
-    let of_target = identity(rt.alloc(), &mut store, simple.target)?;
-    assert_eq!(rt;
-        parts_of(rt.alloc(), &mut store, simple)?,
-        (simple, of_target)
-    );
-    let parallel = map_of(rt.alloc(), &mut store, NODES, ABOVE)?;
-    let of_source = identity(rt.alloc(), &mut store, parallel.source)?;
-    assert_eq!(rt;
-        parts_of(rt.alloc(), &mut store, parallel)?,
-        (of_source, parallel)
-    );
+fn factors_are_missed(rt: HostRuntime) -> Result<(), Fail> {
+    let factor = over_new_store(rt.alloc(), factor_of_first)?;
+    assert_eq!(rt; factor, None);
+    Ok(())
+}
+
+fn is_unit_over_itself(store: &mut Store, places: (usize, usize, usize)) -> Result<bool, Fail> {
+    let alloc = store.allocator();
+    let map = map_of(alloc, store, NODES, places)?;
+    has_unit_factor(alloc, store, &map)
+}
+
+#[test]
+fn degeneracies_have_unit_factors(rt: HostRuntime) -> Result<(), Fail> {
+    for places in [SECOND, ABOVE] {
+        assert!(rt; over_new_store(rt.alloc(), |store| is_unit_over_itself(store, places))?);
+    }
+    Ok(())
+}
+
+fn has_parts_at(
+    store: &mut Store,
+    places: (usize, usize, usize),
+    is_simple: bool,
+) -> Result<bool, Fail> {
+    let alloc = store.allocator();
+    let map = map_of(alloc, store, NODES, places)?;
+    has_parts(alloc, store, &map, is_simple)
+}
+
+#[test]
+fn simple_parts_come_first(rt: HostRuntime) -> Result<(), Fail> {
+    for (places, is_simple) in [(SECOND, true), (ABOVE, false)] {
+        assert!(rt; over_new_store(rt.alloc(), |store| has_parts_at(store, places, is_simple))?);
+    }
     Ok(())
 }
