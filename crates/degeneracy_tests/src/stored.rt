@@ -112,7 +112,8 @@ fn check_degeneracy(alloc: Global, store: &mut Store, map: Map) -> Result<(), Fa
     ensures degeneracy { OnOk result (IsDegeneracyMap store.new map) }
     ensures grows { Grows store.old store.new }
 {
-    if is_degeneracy(alloc, store, map)? {
+    let told = is_degeneracy(alloc, store, map)?;
+    if told {
         Ok(())
     } else {
         Err(Fail::from("the map is no degeneracy"))

@@ -130,6 +130,7 @@ fn valid_map_of(
 }
 
 /// The identity of a diagram, which has to be a valid map.
+#[tactic(auto, using(hashcons::proofs::Growth::growth))]
 fn valid_identity(alloc: Global, store: &mut Store, d: DiagramId) -> Result<Map, Fail>
     requires { IsDiagramOf store.old d }
     ensures source { IfOk result (λ m. m.source ≡ d) }

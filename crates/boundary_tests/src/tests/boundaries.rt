@@ -51,13 +51,13 @@ fn follows_a_path(rt: HostRuntime) -> Result<(), Fail> {
 }
 
 /// The diagram of x, over which a cone with f can be made.
-#[tactic(auto, using(crate::proofs::Points::points))]
 fn put_x(store: &mut Store) -> Result<DiagramId, AllocError>
     ensures valid { IfOk result (IsValidPlain store.new) }
     ensures labels { IfOk result (λ d. HasLabelsBelowTree 1 (diagram_at store.new d)) }
     ensures parallel { IfOk result (λ d. AreParallel (diagram_at store.new d) (diagram_at store.new d)) }
 {
-    put_label(store, X)
+    let d = put_label(store, X)?;
+    Ok(d)
 }
 
 /// The labels of the arrow and of the target of the cone over x with f, in dimension 0.

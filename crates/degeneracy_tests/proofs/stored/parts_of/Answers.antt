@@ -3,7 +3,7 @@ use Rattle.zigzag_maps.proofs.KeptMaps.{valid_map-grows}
 use Rattle.degeneracy_tests.proofs.stored.parts_of.Goals as goal
 
 pub dim-requires : goal.dim-requires
-dim-requires c = c.check_degeneracy.ensures.grows.arrows _ c.requires.arrow
+dim-requires c = record { of_store = c.check_degeneracy.ensures.grows.arrows _ c.requires.arrow }
 
 pub split-requires-clause-valid : goal.split-requires-clause-valid
 split-requires-clause-valid c = valid_map-grows _ _ _ c.check_degeneracy.ensures.grows c.requires
