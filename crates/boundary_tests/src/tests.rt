@@ -11,6 +11,15 @@ mod boundaries;
 mod loose_legs;
 mod verdicts;
 
+/// What is answered over a new store. A function that has a store of its own is dear to prove, so
+/// this is the only one.
+fn over_new_store<R, F: FnOnce(&mut Store) -> R>(alloc: Global, answer: F) -> R
+    requires { F.IsAlwaysCallable answer }
+{
+    let mut store = Store::new(alloc);
+    answer(&mut store)
+}
+
 /// The ids of these nodes, and the diagram at a place among them.
 fn put_diagram_of(
     alloc: Global,

@@ -10,6 +10,15 @@ use std::test::Fail;
 use store_fixtures::{arrow_at, diagram_at, document_of};
 use zigzag_maps::{Map, SquareTest, identity, squares, valid};
 
+/// What is answered over a new store. A function that has a store of its own is dear to prove, so
+/// this is the only one.
+pub(crate) fn over_new_store<R, F: FnOnce(&mut Store) -> R>(alloc: Global, answer: F) -> R
+    requires { F.IsAlwaysCallable answer }
+{
+    let mut store = Store::new(alloc);
+    answer(&mut store)
+}
+
 /// The places of the source, of the target and of the arrow of a map.
 #[derive(Clone, Copy)]
 pub(crate) struct MapPlaces {
@@ -100,10 +109,10 @@ fn map_of(alloc: Global, store: &mut Store, nodes: &str, places: MapPlaces) -> R
 }
 
 /// Whether the map at these places is a degeneracy.
-pub(crate) fn is_told(alloc: Global, nodes: &str, places: MapPlaces) -> Result<bool, Fail> {
-    let mut store = Store::new(alloc);
-    let map = map_of(alloc, &mut store, nodes, places)?;
-    Ok(is_degeneracy(alloc, &mut store, map)?)
+pub(crate) fn is_told(store: &mut Store, nodes: &str, places: MapPlaces) -> Result<bool, Fail> {
+    let alloc = store.allocator();
+    let map = map_of(alloc, store, nodes, places)?;
+    Ok(is_degeneracy(alloc, store, map)?)
 }
 
 /// Fails if a map is no degeneracy.
@@ -157,14 +166,14 @@ pub(crate) struct Factored {
 
 /// These of the maps at two triples of places.
 pub(crate) fn factor_beside_unit(
-    alloc: Global,
+    store: &mut Store,
     nodes: &str,
     places: (MapPlaces, MapPlaces),
 ) -> Result<Factored, Fail> {
-    let mut store = Store::new(alloc);
-    let (f, d) = maps_of(alloc, &mut store, nodes, places)?;
-    let factor = factor_of(alloc, &mut store, f, d)?;
-    let unit = identity(alloc, &mut store, d.source)?;
+    let alloc = store.allocator();
+    let (f, d) = maps_of(alloc, store, nodes, places)?;
+    let factor = factor_of(alloc, store, f, d)?;
+    let unit = identity(alloc, store, d.source)?;
     Ok(Factored { factor, unit })
 }
 
@@ -201,14 +210,14 @@ pub(crate) struct Parted {
 
 /// These of the map at these places.
 pub(crate) fn parts_beside_units(
-    alloc: Global,
+    store: &mut Store,
     nodes: &str,
     places: MapPlaces,
 ) -> Result<Parted, Fail> {
-    let mut store = Store::new(alloc);
-    let map = map_of(alloc, &mut store, nodes, places)?;
-    let parts = parts_of(alloc, &mut store, map)?;
-    let (of_source, of_target) = units_of(alloc, &mut store, &map)?;
+    let alloc = store.allocator();
+    let map = map_of(alloc, store, nodes, places)?;
+    let parts = parts_of(alloc, store, map)?;
+    let (of_source, of_target) = units_of(alloc, store, &map)?;
     Ok(Parted {
         map,
         parts,

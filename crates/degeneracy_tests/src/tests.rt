@@ -1,4 +1,4 @@
-use crate::stored::{MapPlaces, factor_beside_unit, is_told, parts_beside_units};
+use crate::stored::{MapPlaces, factor_beside_unit, is_told, over_new_store, parts_beside_units};
 use std::test::Fail;
 
 /// x -> f <- x at place 3, T = x -> x <- x -> f <- x at place 7, and at place 6 the map from the
@@ -32,25 +32,26 @@ const ABOVE: MapPlaces = MapPlaces {
 #[test]
 fn degeneracies_are_told(rt: HostRuntime) -> Result<(), Fail> {
     for (places, want) in [(SECOND, true), (FIRST, false), (ABOVE, true)] {
-        assert_eq!(rt; is_told(rt.alloc(), NODES, places)?, want);
+        let told = over_new_store(rt.alloc(), |store| is_told(store, NODES, places))?;
+        assert_eq!(rt; told, want);
     }
     Ok(())
 }
 
 #[test]
 fn factors_are_found(rt: HostRuntime) -> Result<(), Fail> {
-    let of_itself = factor_beside_unit(rt.alloc(), NODES, (SECOND, SECOND))?;
+    let of_itself = over_new_store(rt.alloc(), |store| factor_beside_unit(store, NODES, (SECOND, SECOND)))?;
     assert_eq!(rt; of_itself.factor, Some(of_itself.unit));
-    let of_first = factor_beside_unit(rt.alloc(), NODES, (FIRST, SECOND))?;
+    let of_first = over_new_store(rt.alloc(), |store| factor_beside_unit(store, NODES, (FIRST, SECOND)))?;
     assert_eq!(rt; of_first.factor, None);
     Ok(())
 }
 
 #[test]
 fn parts_come_in_order(rt: HostRuntime) -> Result<(), Fail> {
-    let simple = parts_beside_units(rt.alloc(), NODES, SECOND)?;
+    let simple = over_new_store(rt.alloc(), |store| parts_beside_units(store, NODES, SECOND))?;
     assert_eq!(rt; simple.parts, (simple.map, simple.of_target));
-    let parallel = parts_beside_units(rt.alloc(), NODES, ABOVE)?;
+    let parallel = over_new_store(rt.alloc(), |store| parts_beside_units(store, NODES, ABOVE))?;
     assert_eq!(rt; parallel.parts, (parallel.of_source, parallel.map));
     Ok(())
 }

@@ -48,13 +48,14 @@ fn next_cone(alloc: Global, store: &mut Store, signature: &mut Signature) -> Res
 
 /// What is answered to one more generator where 60,000 are there, and how many are there after it.
 #[tactic(auto, using(typecheck::proofs::ForCallers::signatures))]
-pub(crate) fn one_too_many(alloc: Global) -> Result<(Result<Label, AddRefusal>, usize), Fail> {
-    let mut store = Store::new(alloc);
-    let mut signature = Signature::new(alloc);
+pub(crate) fn one_too_many(
+    store: &mut Store,
+) -> Result<(Result<Label, AddRefusal>, usize), Fail> {
+    let mut signature = Signature::new(store.allocator());
     for _n in 0..60_000 {
-        let _ = signature.add(&mut store, None)?;
+        let _ = signature.add(store, None)?;
     }
-    let answer = signature.add(&mut store, None);
+    let answer = signature.add(store, None);
     Ok((answer, signature.len()))
 }
 
@@ -71,8 +72,7 @@ fn add_loop(
 }
 
 /// The same where x alone is there.
-pub(crate) fn loop_on(alloc: Global, label: Label) -> Result<Result<Label, AddRefusal>, Fail> {
-    let mut store = Store::new(alloc);
-    let mut signature = point_alone(alloc, &mut store)?;
-    add_loop(&mut store, &mut signature, label)
+pub(crate) fn loop_on(store: &mut Store, label: Label) -> Result<Result<Label, AddRefusal>, Fail> {
+    let mut signature = point_alone(store.allocator(), store)?;
+    add_loop(store, &mut signature, label)
 }

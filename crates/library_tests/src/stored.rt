@@ -17,6 +17,15 @@ use std::test::Fail;
 use store_fixtures::{arrow_at, diagram_at, document_of};
 use zigzag_maps::{Map, SquareTest, compose, identity, squares, valid};
 
+/// What is answered over a new store. A function that has a store of its own is dear to prove, so
+/// this is the only one.
+pub(crate) fn over_new_store<R, F: FnOnce(&mut Store) -> R>(alloc: Global, answer: F) -> R
+    requires { F.IsAlwaysCallable answer }
+{
+    let mut store = Store::new(alloc);
+    answer(&mut store)
+}
+
 /// The places of the ends and of the arrow of a map.
 #[derive(Clone, Copy)]
 pub(crate) struct MapPlaces {
@@ -92,13 +101,13 @@ fn place_of(test: SquareTest) -> Option<Place>
 
 /// Where the map at these places of the nodes of a document fails first. Its ends have to be valid.
 pub(crate) fn map_fault(
-    alloc: Global,
+    store: &mut Store,
     nodes: &str,
     places: MapPlaces,
 ) -> Result<Option<Place>, Fail> {
-    let mut store = Store::new(alloc);
-    let map = map_of(alloc, &mut store, nodes, places)?;
-    Ok(place_of(squares_of(alloc, &mut store, &map)?))
+    let alloc = store.allocator();
+    let map = map_of(alloc, store, nodes, places)?;
+    Ok(place_of(squares_of(alloc, store, &map)?))
 }
 
 /// Fails if a map is not valid.
@@ -190,14 +199,14 @@ pub(crate) struct UnitComposites {
 
 /// These of the map at these places, which has to be valid.
 pub(crate) fn unit_composites(
-    alloc: Global,
+    store: &mut Store,
     nodes: &str,
     places: MapPlaces,
 ) -> Result<UnitComposites, Fail> {
-    let mut store = Store::new(alloc);
-    let map = valid_map_of(alloc, &mut store, nodes, places)?;
-    let (after_identity, before_identity) = both_composites(alloc, &mut store, &map)?;
-    let noted = noted_composites(&store, &map);
+    let alloc = store.allocator();
+    let map = valid_map_of(alloc, store, nodes, places)?;
+    let (after_identity, before_identity) = both_composites(alloc, store, &map)?;
+    let noted = noted_composites(store, &map);
     Ok(UnitComposites {
         map,
         after_identity,
@@ -207,22 +216,21 @@ pub(crate) fn unit_composites(
 }
 
 /// Whether the arrow of the map at these places is plain. The map has to be valid.
-pub(crate) fn plain_of(alloc: Global, nodes: &str, places: MapPlaces) -> Result<bool, Fail> {
-    let mut store = Store::new(alloc);
-    let map = valid_map_of(alloc, &mut store, nodes, places)?;
-    Ok(plain(&store, map))
+pub(crate) fn plain_of(store: &mut Store, nodes: &str, places: MapPlaces) -> Result<bool, Fail> {
+    let map = valid_map_of(store.allocator(), store, nodes, places)?;
+    Ok(plain(store, map))
 }
 
 /// The cones over two types, each beside the map at its places.
 pub(crate) fn cones_beside(
-    alloc: Global,
+    store: &mut Store,
     nodes: &str,
     places: (MapPlaces, MapPlaces),
 ) -> Result<((Map, Map), (Map, Map)), Fail> {
-    let mut store = Store::new(alloc);
-    let (over_arrow, over_square) = cones_over_types(alloc, &mut store)?;
-    let first = map_of(alloc, &mut store, nodes, places.0)?;
-    let second = map_of(alloc, &mut store, nodes, places.1)?;
+    let alloc = store.allocator();
+    let (over_arrow, over_square) = cones_over_types(alloc, store)?;
+    let first = map_of(alloc, store, nodes, places.0)?;
+    let second = map_of(alloc, store, nodes, places.1)?;
     Ok(((over_arrow, first), (over_square, second)))
 }
 
@@ -255,13 +263,13 @@ fn put_diagram_of(
 /// Where the diagram at a place of the nodes of a document fails first: as a plain tree, and in a
 /// store.
 pub(crate) fn diagram_faults(
-    alloc: Global,
+    store: &mut Store,
     nodes: &str,
     place: usize,
 ) -> Result<(Option<Place>, Option<Place>), Fail> {
-    let mut store = Store::new(alloc);
-    let (document, d) = put_diagram_of(&mut store, nodes, place)?;
+    let alloc = store.allocator();
+    let (document, d) = put_diagram_of(store, nodes, place)?;
     let plain = plain_fault(alloc, document.nodes.as_slice(), place)?;
-    let stored = place_of(valid(alloc, &mut store, d)?);
+    let stored = place_of(valid(alloc, store, d)?);
     Ok((plain, stored))
 }

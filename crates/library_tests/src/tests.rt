@@ -1,6 +1,6 @@
 use crate::signatures::{loop_on, one_too_many};
 use crate::stored::{
-    MapPlaces, cones_beside, diagram_faults, map_fault, plain_of, unit_composites,
+    MapPlaces, cones_beside, diagram_faults, map_fault, over_new_store, plain_of, unit_composites,
 };
 use diagram_terms::{End, Fault, Label, Place, Step};
 use std::test::Fail;
@@ -67,7 +67,8 @@ fn at(source: usize, target: usize, arrow: usize) -> MapPlaces {
 
 #[test]
 fn squares_tests_heights_with_an_empty_fibre(rt: HostRuntime) -> Result<(), Fail> {
-    let found = map_fault(rt.alloc(), EMPTY_FIBRE, at(10, 9, 12))?;
+    let places = at(10, 9, 12);
+    let found = over_new_store(rt.alloc(), |store| map_fault(store, EMPTY_FIBRE, places))?;
     assert!(rt; is_at(&found, Some((&[], End::Square(0)))));
     Ok(())
 }
@@ -75,7 +76,8 @@ fn squares_tests_heights_with_an_empty_fibre(rt: HostRuntime) -> Result<(), Fail
 #[test]
 fn squares_names_ends_of_another_dimension(rt: HostRuntime) -> Result<(), Fail> {
     for (source, target) in [(2, 2), (0, 2), (2, 0)] {
-        let found = map_fault(rt.alloc(), TWO_DIMENSIONS, at(source, target, 1))?;
+        let places = at(source, target, 1);
+        let found = over_new_store(rt.alloc(), |store| map_fault(store, TWO_DIMENSIONS, places))?;
         assert!(rt; is_at(&found, Some((&[], End::Ends))), "{source} {target}");
     }
     Ok(())
@@ -83,7 +85,8 @@ fn squares_names_ends_of_another_dimension(rt: HostRuntime) -> Result<(), Fail> 
 
 #[test]
 fn composes_maps(rt: HostRuntime) -> Result<(), Fail> {
-    let made = unit_composites(rt.alloc(), INCLUSION, at(5, 4, 6))?;
+    let places = at(5, 4, 6);
+    let made = over_new_store(rt.alloc(), |store| unit_composites(store, INCLUSION, places))?;
     assert_eq!(rt; made.after_identity, made.map);
     assert_eq!(rt; made.before_identity, made.map);
     let (after, before) = made.noted.ok_or("no identity is noted")?;
@@ -102,7 +105,7 @@ fn plain_asks_every_slice(rt: HostRuntime) -> Result<(), Fail> {
         (LOOSE_SLICES, at(8, 9, 10), false),
     ];
     for (nodes, places, want) in cases {
-        let answer = plain_of(rt.alloc(), nodes, places)?;
+        let answer = over_new_store(rt.alloc(), |store| plain_of(store, nodes, places))?;
         assert_eq!(rt; answer, want, "{nodes} {}", places.arrow);
     }
     Ok(())
@@ -111,7 +114,8 @@ fn plain_asks_every_slice(rt: HostRuntime) -> Result<(), Fail> {
 #[test]
 fn cones_go_over_types(rt: HostRuntime) -> Result<(), Fail> {
     let places = (at(3, 6, 9), at(10, 16, 21));
-    let (over_arrow, over_square) = cones_beside(rt.alloc(), CONES, places)?;
+    let (over_arrow, over_square) =
+        over_new_store(rt.alloc(), |store| cones_beside(store, CONES, places))?;
     assert_eq!(rt; over_arrow.0, over_arrow.1);
     assert_eq!(rt; over_square.0, over_square.1);
     Ok(())
@@ -119,11 +123,11 @@ fn cones_go_over_types(rt: HostRuntime) -> Result<(), Fail> {
 
 #[test]
 fn generators_are_refused(rt: HostRuntime) -> Result<(), Fail> {
-    let (answer, len) = one_too_many(rt.alloc())?;
+    let (answer, len) = over_new_store(rt.alloc(), one_too_many)?;
     assert!(rt; matches!(answer, Err(AddRefusal::CountLimit)));
     assert_eq!(rt; len, 60_000);
     let unknown = Label { number: 1, dim: 0 };
-    let answer = loop_on(rt.alloc(), unknown)?;
+    let answer = over_new_store(rt.alloc(), |store| loop_on(store, unknown))?;
     let Err(AddRefusal::IllTyped(Fault::LabelAt(point))) = answer else {
         panic!(rt; "a loop on no generator");
     };
@@ -146,7 +150,8 @@ fn both_tests_of_validity_agree(rt: HostRuntime) -> Result<(), Fail> {
         (cube.as_str(), 13, Some((&to_slice[..1], End::Square(0)))),
     ];
     for (nodes, place, want) in cases {
-        let (plain, stored) = diagram_faults(alloc, nodes, place)?;
+        let (plain, stored) =
+            over_new_store(alloc, |store| diagram_faults(store, nodes, place))?;
         assert!(rt; is_at(&plain, want), "{nodes}");
         assert!(rt; is_at(&stored, want), "{nodes}");
     }

@@ -4,11 +4,11 @@ ghost use Rattle.diagram_terms.specs.Slices.{AreParallel};
 ghost use Rattle.hashcons.specs.Contents.{IsDiagramOf, diagram_at};
 ghost use Rattle.plain_maps.specs.ValidPlain.{IsValidPlain};
 
-use super::{put_diagram_of, read_of};
+use super::{over_new_store, put_diagram_of, read_of};
 use boundary_paths::{NoHeight, cone, identity_diagram, parallel, slice, type_over};
 use diagram_terms::{Height, Label};
 use hashcons::{AnyId, DiagramId, Store};
-use std::alloc::{AllocError, Global};
+use std::alloc::AllocError;
 use std::test::Fail;
 use store_fixtures::{label_of, pair_of, put_label};
 
@@ -22,14 +22,18 @@ const PATH: &str =
 
 /// The place of a diagram among ids.
 fn place_of(ids: &[AnyId], d: DiagramId) -> Option<usize> {
-    ids.iter().position(|id| *id == AnyId::Diagram(d))
+    for (place, id) in ids.iter().enumerate() {
+        if *id == AnyId::Diagram(d) {
+            return Some(place);
+        }
+    }
+    None
 }
 
 /// The place of the slice of the last of these nodes along a path.
-fn slice_of(alloc: Global, path: &[Height]) -> Result<Result<Option<usize>, NoHeight>, Fail> {
-    let mut store = Store::new(alloc);
-    let (ids, d) = put_diagram_of(alloc, &mut store, PATH, 4)?;
-    match slice(&store, d, path) {
+fn slice_of(store: &mut Store, path: &[Height]) -> Result<Result<Option<usize>, NoHeight>, Fail> {
+    let (ids, d) = put_diagram_of(store.allocator(), store, PATH, 4)?;
+    match slice(store, d, path) {
         Ok(found) => Ok(Ok(place_of(&ids, found))),
         Err(fault) => Ok(Err(fault)),
     }
@@ -45,7 +49,8 @@ fn follows_a_path(rt: HostRuntime) -> Result<(), Fail> {
         (&[Height::S(0), Height::R(0)], Err(NoHeight { step: 1 })),
     ];
     for (path, want) in cases {
-        assert_eq!(rt; slice_of(rt.alloc(), path)?, want);
+        let found = over_new_store(rt.alloc(), |store| slice_of(store, path))?;
+        assert_eq!(rt; found, want);
     }
     Ok(())
 }
@@ -61,38 +66,36 @@ fn put_x(store: &mut Store) -> Result<DiagramId, AllocError>
 }
 
 /// The labels of the arrow and of the target of the cone over x with f, in dimension 0.
-fn cone_over_x(alloc: Global) -> Result<(Option<(Label, Label)>, Option<Label>), AllocError> {
-    let mut store = Store::new(alloc);
-    let x = put_x(&mut store)?;
-    let map = cone(alloc, &mut store, x, F)?;
-    Ok((pair_of(&store, map.arrow), label_of(&store, map.target)))
+fn cone_over_x(store: &mut Store) -> Result<(Option<(Label, Label)>, Option<Label>), AllocError> {
+    let x = put_x(store)?;
+    let map = cone(store.allocator(), store, x, F)?;
+    Ok((pair_of(store, map.arrow), label_of(store, map.target)))
 }
 
 #[test]
 fn cones_over_a_label(rt: HostRuntime) -> Result<(), Fail> {
-    let (arrow, target) = cone_over_x(rt.alloc())?;
+    let (arrow, target) = over_new_store(rt.alloc(), cone_over_x)?;
     assert_eq!(rt; arrow, Some((X, F)));
     assert_eq!(rt; target, Some(F));
     Ok(())
 }
 
 /// x, and the type of f from x to x.
-fn loop_type(alloc: Global, store: &mut Store) -> Result<(DiagramId, DiagramId), AllocError>
+fn loop_type(store: &mut Store) -> Result<(DiagramId, DiagramId), AllocError>
     ensures point { IfOk result (λ r. IsDiagramOf store.new r.0) }
     ensures whole { IfOk result (λ r. IsDiagramOf store.new r.1) }
 {
     let x = put_x(store)?;
-    let whole = type_over(alloc, store, x, x, F)?;
+    let whole = type_over(store.allocator(), store, x, x, F)?;
     Ok((x, whole))
 }
 
 /// x, and what is read of the type of f.
 fn read_loop_type(
-    alloc: Global,
+    store: &mut Store,
 ) -> Result<(DiagramId, (usize, usize, Option<(DiagramId, DiagramId)>)), AllocError> {
-    let mut store = Store::new(alloc);
-    let (x, whole) = loop_type(alloc, &mut store)?;
-    Ok((x, read_of(&store, whole)))
+    let (x, whole) = loop_type(store)?;
+    Ok((x, read_of(store, whole)))
 }
 
 /// The identity diagram of x, beside x and the type of f.
@@ -103,13 +106,13 @@ struct Compared {
     degenerate: DiagramId,
 }
 
-fn make_compared(alloc: Global, store: &mut Store) -> Result<Compared, AllocError>
+fn make_compared(store: &mut Store) -> Result<Compared, AllocError>
     ensures point { IfOk result (λ r. IsDiagramOf store.new r.point) }
     ensures whole { IfOk result (λ r. IsDiagramOf store.new r.whole) }
     ensures degenerate { IfOk result (λ r. IsDiagramOf store.new r.degenerate) }
 {
-    let (point, whole) = loop_type(alloc, store)?;
-    let degenerate = identity_diagram(alloc, store, point)?;
+    let (point, whole) = loop_type(store)?;
+    let degenerate = identity_diagram(store.allocator(), store, point)?;
     Ok(Compared {
         point,
         whole,
@@ -118,23 +121,22 @@ fn make_compared(alloc: Global, store: &mut Store) -> Result<Compared, AllocErro
 }
 
 /// The length of the identity diagram of x, and whether it and whether x is parallel to the type of f.
-fn parallel_to_type(alloc: Global) -> Result<(usize, bool, bool), AllocError> {
-    let mut store = Store::new(alloc);
-    let made = make_compared(alloc, &mut store)?;
+fn parallel_to_type(store: &mut Store) -> Result<(usize, bool, bool), AllocError> {
+    let made = make_compared(store)?;
     Ok((
         store.length(made.degenerate),
-        parallel(&store, made.whole, made.degenerate),
-        parallel(&store, made.whole, made.point),
+        parallel(store, made.whole, made.degenerate),
+        parallel(store, made.whole, made.point),
     ))
 }
 
 #[test]
 fn types_have_their_ends(rt: HostRuntime) -> Result<(), Fail> {
-    let (x, (dim, length, ends)) = read_loop_type(rt.alloc())?;
+    let (x, (dim, length, ends)) = over_new_store(rt.alloc(), read_loop_type)?;
     assert_eq!(rt; dim, 1);
     assert_eq!(rt; length, 1);
     assert_eq!(rt; ends, Some((x, x)));
-    let (length, of_identity, of_point) = parallel_to_type(rt.alloc())?;
+    let (length, of_identity, of_point) = over_new_store(rt.alloc(), parallel_to_type)?;
     assert_eq!(rt; length, 0);
     assert!(rt; of_identity);
     assert!(rt; !of_point);

@@ -2,7 +2,7 @@ ghost use Rattle.std.specs.Prelude.{OnOk};
 ghost use Rattle.hashcons.specs.Contents.{IsDiagramOf};
 ghost use Rattle.zigzag_maps.specs.Found.{IsValidDiagram};
 
-use super::put_diagram_of;
+use super::{over_new_store, put_diagram_of};
 use diagram_terms::{Items, Step};
 use hashcons::{DiagramId, Store};
 use plain_maps::first_loose;
@@ -27,16 +27,16 @@ fn check_valid(alloc: Global, store: &mut Store, d: DiagramId) -> Result<(), Fai
 }
 
 /// The first loose leg of the last of these nodes, which has to be valid.
-fn loose_leg(alloc: Global) -> Result<Option<Items<Step>>, Fail> {
-    let mut store = Store::new(alloc);
-    let (_ids, d) = put_diagram_of(alloc, &mut store, LOOSE, 6)?;
-    check_valid(alloc, &mut store, d)?;
-    Ok(first_loose(alloc, &store, d)?)
+fn loose_leg(store: &mut Store) -> Result<Option<Items<Step>>, Fail> {
+    let alloc = store.allocator();
+    let (_ids, d) = put_diagram_of(alloc, store, LOOSE, 6)?;
+    check_valid(alloc, store, d)?;
+    Ok(first_loose(alloc, store, d)?)
 }
 
 #[test]
 fn names_the_first_loose_leg(rt: HostRuntime) -> Result<(), Fail> {
-    let steps = loose_leg(rt.alloc())?.ok_or("every leg is plain")?;
+    let steps = over_new_store(rt.alloc(), loose_leg)?.ok_or("every leg is plain")?;
     assert_eq!(rt; steps.as_slice(), [Step::F(0)].as_slice());
     Ok(())
 }

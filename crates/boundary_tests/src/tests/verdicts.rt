@@ -2,10 +2,10 @@ ghost use Rattle.std.specs.Prelude.{◌≡◌, ◌+◌, [], IfOk, OnOk, length};
 ghost use Rattle.hashcons.specs.Contents.{Grows, IsDiagramOf};
 ghost use Rattle.typecheck.specs.Signatures.{IsBoundaryOf, IsGoodOver};
 
-use super::read_of;
+use super::{over_new_store, read_of};
 use diagram_terms::{Fault, Label};
 use hashcons::{DiagramId, Store};
-use std::alloc::{AllocError, Global};
+use std::alloc::AllocError;
 use std::test::Fail;
 use store_fixtures::{label_of, put_label};
 use typecheck::{AddRefusal, Signature, Verdict};
@@ -49,10 +49,9 @@ fn add_loop(
 }
 
 /// The labels of x and of f.
-fn labels_of_loop(alloc: Global) -> Result<(Label, Label), AddRefusal> {
-    let mut store = Store::new(alloc);
-    let mut signature = Signature::new(alloc);
-    let _types = add_loop(&mut store, &mut signature)?;
+fn labels_of_loop(store: &mut Store) -> Result<(Label, Label), AddRefusal> {
+    let mut signature = Signature::new(store.allocator());
+    let _types = add_loop(store, &mut signature)?;
     Ok((signature.label(0), signature.label(1)))
 }
 
@@ -64,23 +63,22 @@ struct LoopRead {
     whole: (usize, usize, Option<(DiagramId, DiagramId)>),
 }
 
-fn read_loop(alloc: Global) -> Result<LoopRead, AddRefusal> {
-    let mut store = Store::new(alloc);
-    let mut signature = Signature::new(alloc);
-    let (point, whole) = add_loop(&mut store, &mut signature)?;
+fn read_loop(store: &mut Store) -> Result<LoopRead, AddRefusal> {
+    let mut signature = Signature::new(store.allocator());
+    let (point, whole) = add_loop(store, &mut signature)?;
     Ok(LoopRead {
         point,
-        label: label_of(&store, point),
-        whole: read_of(&store, whole),
+        label: label_of(store, point),
+        whole: read_of(store, whole),
     })
 }
 
 #[test]
 fn labels_and_types(rt: HostRuntime) -> Result<(), Fail> {
-    let (x, f) = labels_of_loop(rt.alloc())?;
+    let (x, f) = over_new_store(rt.alloc(), labels_of_loop)?;
     assert_eq!(rt; x, X);
     assert_eq!(rt; f, F);
-    let read = read_loop(rt.alloc())?;
+    let read = over_new_store(rt.alloc(), read_loop)?;
     assert_eq!(rt; read.label, Some(X));
     let (dim, length, ends) = read.whole;
     assert_eq!(rt; dim, 1);
@@ -90,19 +88,17 @@ fn labels_and_types(rt: HostRuntime) -> Result<(), Fail> {
 }
 
 /// What is answered to a generator from x to the type of f.
-fn added_over_a_loop(alloc: Global) -> Result<Result<Label, AddRefusal>, AddRefusal> {
-    let mut store = Store::new(alloc);
-    let mut signature = Signature::new(alloc);
-    let (point, whole) = add_loop(&mut store, &mut signature)?;
-    Ok(signature.add(&mut store, Some((point, whole))))
+fn added_over_a_loop(store: &mut Store) -> Result<Result<Label, AddRefusal>, AddRefusal> {
+    let mut signature = Signature::new(store.allocator());
+    let (point, whole) = add_loop(store, &mut signature)?;
+    Ok(signature.add(store, Some((point, whole))))
 }
 
 /// The verdict on the type of f.
-fn verdict_on_type(alloc: Global) -> Result<Verdict, AddRefusal> {
-    let mut store = Store::new(alloc);
-    let mut signature = Signature::new(alloc);
-    let (_point, whole) = add_loop(&mut store, &mut signature)?;
-    Ok(signature.check(&mut store, whole)?)
+fn verdict_on_type(store: &mut Store) -> Result<Verdict, AddRefusal> {
+    let mut signature = Signature::new(store.allocator());
+    let (_point, whole) = add_loop(store, &mut signature)?;
+    Ok(signature.check(store, whole)?)
 }
 
 /// The verdict on the diagram of a label.
@@ -118,39 +114,37 @@ fn verdict_on_label(
 }
 
 /// The verdict on the diagram of the label of f.
-fn verdict_on_f(alloc: Global) -> Result<Verdict, AddRefusal> {
-    let mut store = Store::new(alloc);
-    let mut signature = Signature::new(alloc);
-    let _types = add_loop(&mut store, &mut signature)?;
-    Ok(verdict_on_label(&mut store, &mut signature, F)?)
+fn verdict_on_f(store: &mut Store) -> Result<Verdict, AddRefusal> {
+    let mut signature = Signature::new(store.allocator());
+    let _types = add_loop(store, &mut signature)?;
+    Ok(verdict_on_label(store, &mut signature, F)?)
 }
 
 #[test]
 fn refusals_and_verdicts(rt: HostRuntime) -> Result<(), Fail> {
-    let refused = added_over_a_loop(rt.alloc())?;
+    let refused = over_new_store(rt.alloc(), added_over_a_loop)?;
     assert!(rt; matches!(refused, Err(AddRefusal::DimDiffers)));
-    let on_type = verdict_on_type(rt.alloc())?;
+    let on_type = over_new_store(rt.alloc(), verdict_on_type)?;
     assert!(rt; matches!(on_type, Verdict::Yes));
-    let on_label = verdict_on_f(rt.alloc())?;
+    let on_label = over_new_store(rt.alloc(), verdict_on_f)?;
     assert!(rt; matches!(on_label, Verdict::No(Fault::TypeAt(_))));
     Ok(())
 }
 
 /// How many generators there are when the only one was taken away, and when it was put back.
 #[tactic(auto, using(typecheck::proofs::ForCallers::signatures))]
-fn taken_and_put_back(alloc: Global) -> Result<(usize, usize), AddRefusal> {
-    let mut store = Store::new(alloc);
-    let mut signature = Signature::new(alloc);
-    let _ = signature.add(&mut store, None)?;
+fn taken_and_put_back(store: &mut Store) -> Result<(usize, usize), AddRefusal> {
+    let mut signature = Signature::new(store.allocator());
+    let _ = signature.add(store, None)?;
     signature.remove_last();
     let taken = signature.len();
-    signature.put_back(&store, None);
+    signature.put_back(store, None);
     Ok((taken, signature.len()))
 }
 
 #[test]
 fn put_back_after_remove_last(rt: HostRuntime) -> Result<(), Fail> {
-    let (taken, put_back) = taken_and_put_back(rt.alloc())?;
+    let (taken, put_back) = over_new_store(rt.alloc(), taken_and_put_back)?;
     assert_eq!(rt; taken, 0);
     assert_eq!(rt; put_back, 1);
     Ok(())
