@@ -4,11 +4,11 @@ use Rattle.std.specs.List.{flat_map}
 use Rattle.std.specs.Bool.{Decides}
 use Rattle.std.proofs.lemmas.Option.{same_Some}
 use Rattle.std.proofs.lemmas.List.{length-map}
-use Rattle.hashcons.specs.Blocks.{blocks_of, distinct, distinct_blocks, nonempty, same_numbers, Among, StandOnce}
-use Rattle.hashcons.proofs.Blocks.{numbers_decide}
-use Rattle.hashcons.proofs.Counting.{as_many, nonempty-from, nonempty-has, nonempty-once, once-map}
-use Rattle.hashcons.proofs.Cutting.{blocks_join, blocks_of-map}
-use Rattle.hashcons.proofs.Distinct.{among-head, among-tail, among-left, among-right, slice-map, slice-unmap, distinct_once, distinct_has, distinct_from}
+use Rattle.block_lists.specs.Blocks.{blocks_of, distinct, distinct_blocks, nonempty, same_numbers, Among, StandOnce}
+use Rattle.block_lists.proofs.Blocks.{numbers_decide}
+use Rattle.block_lists.proofs.Counting.{as_many, nonempty-from, nonempty-has, nonempty-once, once-map}
+use Rattle.block_lists.proofs.Cutting.{blocks_join, blocks_of-map}
+use Rattle.block_lists.proofs.Distinct.{among-head, among-tail, among-left, among-right, slice-map, slice-unmap, distinct_once, distinct_has, distinct_from}
 
 -- ---- the parts of each element
 

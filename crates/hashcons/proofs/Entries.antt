@@ -25,9 +25,9 @@ use Rattle.hashcons.specs.declared.node.DiagramNode.TheVariants as diagram_node
 use Rattle.hashcons.specs.declared.node.ArrowNode.{ArrowNode}
 use Rattle.hashcons.specs.declared.node.ArrowNode.TheVariants as arrow_node
 use Rattle.hashcons.specs.Nodes.{viewed_diagram, viewed_arrow}
-use Rattle.hashcons.specs.Blocks.{IsPut, Among, StandOnce}
+use Rattle.block_lists.specs.Blocks.{IsPut, Among, StandOnce}
 use Rattle.hashcons.specs.Entries.{AreHeldBy, Gains, GainsLists, HaveCounts, PutsDiagramEntry, PutsArrowEntry, HoldsDiagramLists, HoldsArrowLists, ShowsDiagram, ShowsArrow, first_lists, diagram_view, arrow_view, diagram_parts, leg_parts, slice_parts, height_parts}
-use Rattle.hashcons.proofs.Distinct.{among-head, among-tail, among-left, among-right, slice-append, get-from_slice, slice-push_cases, slice-map, slice-unmap}
+use Rattle.block_lists.proofs.Distinct.{among-head, among-tail, among-left, among-right, slice-append, get-from_slice, slice-push_cases, slice-map, slice-unmap}
 
 -- ---- what is gained
 

@@ -8,7 +8,8 @@ use Rattle.hashcons.specs.declared.view.DiagramView.{DiagramView}
 use Rattle.hashcons.specs.declared.view.DiagramView.TheVariants as d
 use Rattle.hashcons.specs.Contents.{IsOnce}
 use Rattle.hashcons.specs.Nodes.{tree_of_arrow, tree_of_diagram, IsArrowOver, IsDiagramOver}
-use Rattle.hashcons.proofs.TableTrees.{picked-inj, AgreeBelow, picked-agree, AreBelow-more}
+use Rattle.block_lists.proofs.Below.{AreBelow-more}
+use Rattle.hashcons.proofs.TableTrees.{picked-inj, AgreeBelow, picked-agree}
 
 -- ---- arrows
 

@@ -19,11 +19,7 @@ pub mod Completing
 pub mod ListingPlaces
 pub mod ListedNodes
 pub mod ListEnd
-pub mod Cutting
-pub mod Distinct
-pub mod Blocks
 pub mod Entries
 pub mod LikeArrows
-pub mod Counting
 pub mod Counted
 pub mod StoredLists

@@ -8,7 +8,7 @@ use Rattle.diagram_terms.specs.Nodes.{picked}
 use Rattle.hashcons.specs.declared.view.ArrowView.{ArrowView}
 use Rattle.hashcons.specs.declared.view.ArrowView.TheVariants as a
 use Rattle.hashcons.specs.declared.view.DiagramView.{DiagramView}
-use Rattle.hashcons.specs.Blocks.{IsPut}
+use Rattle.block_lists.specs.Blocks.{IsPut}
 use Rattle.hashcons.specs.Contents.{Contents, Notes, IsArrowOf, AddsArrow, Grows, arrow_at}
 use Rattle.hashcons.specs.Nodes.{tree_of_arrow, described_like}
 use Rattle.hashcons.specs.Tables.{arrow_trees, contents_of, AreTables}

@@ -5,7 +5,7 @@ use Rattle.diagram_terms.specs.Tree.{Tree, nil}
 use Rattle.diagram_terms.specs.Dimension.{IsDiagramTree, IsArrowTree}
 use Rattle.hashcons.specs.declared.view.ArrowView.{ArrowView}
 use Rattle.hashcons.specs.declared.view.DiagramView.{DiagramView}
-use Rattle.hashcons.specs.Blocks.{IsPut}
+use Rattle.block_lists.specs.Blocks.{IsPut}
 use Rattle.hashcons.specs.Contents.{Contents, Notes, diagram_at, arrow_at, Grows, IsStore, AddsArrow, AddsDiagram, with_arrow, with_diagram}
 use Rattle.hashcons.specs.Nodes.{tree_of_arrow, tree_of_diagram, IsArrowOver, IsDiagramOver}
 use Rattle.hashcons.specs.Tables.{trees_from, AreGrounded, arrow_trees, diagram_trees, contents_of, AreTables}

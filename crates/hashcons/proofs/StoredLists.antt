@@ -19,15 +19,15 @@ use Rattle.hashcons.specs.declared.view.DiagramView.{DiagramView}
 use Rattle.hashcons.specs.declared.view.DiagramView.TheVariants as shown
 use Rattle.hashcons.specs.declared.view.ArrowView.{ArrowView}
 use Rattle.hashcons.specs.declared.view.ArrowView.TheVariants as shown_arrow
-use Rattle.hashcons.specs.Blocks.{Among, nonempty, distinct_blocks, same_numbers}
+use Rattle.block_lists.specs.Blocks.{Among, nonempty, distinct_blocks, same_numbers}
 use Rattle.hashcons.specs.Contents.{Contents, Notes}
 use Rattle.hashcons.specs.Entries.{AreHeldBy, ShowsDiagram, ShowsArrow, diagram_view, arrow_view, diagram_parts, leg_parts, slice_parts, height_parts}
 use Rattle.hashcons.specs.Nodes.{tree_of_arrow, tree_of_diagram, IsArrowOver, IsDiagramOver}
 use Rattle.hashcons.specs.Storage.{slices_of_diagram, legs_of_diagram, slices_of_arrow, heights_of_arrow, lists_of_diagrams, lists_of_arrows, lists_of_heights, same_trees, storage_of}
 use Rattle.hashcons.specs.Tables.{arrow_trees, diagram_trees, contents_of, AreTables}
-use Rattle.hashcons.proofs.Blocks.{numbers_decide, among-below}
+use Rattle.block_lists.proofs.Blocks.{numbers_decide, among-below}
 use Rattle.hashcons.proofs.Counted.{PartOf, split, flat-from, among-map, lists_counted, blocks_counted}
-use Rattle.hashcons.proofs.Distinct.{among-head, among-left, among-right, slice-unmap}
+use Rattle.block_lists.proofs.Distinct.{among-head, among-left, among-right, slice-unmap}
 use Rattle.hashcons.proofs.PutTrees.{reads_arrow, reads_diagram, length-arrow_trees, length-diagram_trees}
 
 trees_decide : (ts us : List Tree) → Decides (same_trees ts us) (ts ≡ us)

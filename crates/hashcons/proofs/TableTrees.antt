@@ -4,19 +4,11 @@ use Rattle.std.proofs.lemmas.List.{length_push, get_or_append_left, get_or_at, g
 use Rattle.diagram_terms.specs.Tree.{Tree, nil}
 use Rattle.diagram_terms.specs.Dual.{AreBelow}
 use Rattle.diagram_terms.specs.Nodes.{picked}
+use Rattle.block_lists.proofs.Below.{below_head, below_tail}
 use Rattle.hashcons.specs.Contents.{IsOnce}
 use Rattle.hashcons.specs.Tables.{trees_from, AreGrounded}
 
 -- ---- lists of places
-
-pub below_head : (n i : ℕ) (is : List ℕ) → AreBelow (i ∷ is) n → i < n
-below_head n i is b = b.below 0 (omega arith)
-
-pub below_tail : (n i : ℕ) (is : List ℕ) → AreBelow (i ∷ is) n → AreBelow is n
-below_tail n i is b = record { below = λ j l. b.below (suc j) (omega arith) }
-
-pub AreBelow-more : (k l : ℕ) → k ≤ l → (is : List ℕ) → AreBelow is k → AreBelow is l
-AreBelow-more k l h is b = record { below = λ i m. omega (arith, b.below i m) }
 
 -- the trees below k are the same
 abbrev pub AgreeBelow : ℕ → List Tree → List Tree → Type 0

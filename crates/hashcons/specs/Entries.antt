@@ -12,9 +12,9 @@ use Rattle.hashcons.specs.declared.view.DiagramView.{DiagramView}
 use Rattle.hashcons.specs.declared.view.DiagramView.TheVariants as shown
 use Rattle.hashcons.specs.declared.view.ArrowView.{ArrowView}
 use Rattle.hashcons.specs.declared.view.ArrowView.TheVariants as shown_arrow
-use Rattle.hashcons.specs.Blocks.{IsPut, Among, StandOnce, nonempty, distinct_blocks}
+use Rattle.block_lists.specs.Blocks.{IsPut, Among, StandOnce, nonempty, distinct_blocks}
 use Rattle.hashcons.specs.declared.storage.Storage.{Storage}
-use Rattle.hashcons.specs.Counts.{AreCounts}
+use Rattle.block_lists.specs.Counts.{AreCounts}
 
 abbrev pub no_lists : NodeLists
 no_lists = record { diagrams = []; arrows = []; heights = [] }

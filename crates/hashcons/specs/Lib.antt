@@ -1,6 +1,4 @@
-pub mod Blocks
 pub mod Contents
-pub mod Counts
 pub mod Entries
 pub mod FoundIds
 pub mod Gathers

@@ -5,7 +5,7 @@ use Rattle.std.specs.Cmp.Lexicographic.{pointwise}
 use Rattle.diagram_terms.specs.Tree.{Tree, kind, regs, sings, fwds, bwds, heights}
 use Rattle.diagram_terms.specs.Completion.{same_tree}
 use Rattle.hashcons.specs.declared.storage.Storage.{Storage}
-use Rattle.hashcons.specs.Blocks.{blocks_of, distinct, nonempty, same_numbers}
+use Rattle.block_lists.specs.Blocks.{blocks_of, distinct, nonempty, same_numbers}
 use Rattle.hashcons.specs.Contents.{Contents}
 
 -- the lists of a diagram above dimension 0, and those of an arrow

@@ -7,7 +7,6 @@ mod found;
 mod id;
 mod laws;
 mod list;
-mod lists;
 mod node;
 mod notes;
 mod noting;

@@ -1,13 +1,13 @@
 ghost use Rattle.std.specs.Prelude.{◌≡◌, ℕ, ◌<◌, List, [], ◌∷◌, IfOk, OnErr, length, get_or, slice_get, Some};
-ghost use Rattle.hashcons.specs.Blocks.{IsPut, Among};
+ghost use Rattle.block_lists.specs.Blocks.{IsPut, Among};
 ghost use Rattle.hashcons.specs.Entries.{AreHeld, CountsTables, Gains, GainsLists, HaveCounts, PutsDiagramEntry, PutsArrowEntry, ShowsDiagram, ShowsArrow, first_lists, no_lists, diagram_parts, leg_parts, slice_parts, height_parts, diagram_views, arrow_views};
 ghost use Rattle.hashcons.specs.Nodes.{viewed_diagram, viewed_arrow};
 
 use crate::id::{ArrowId, DiagramId};
-use crate::lists::{Counts, Lists};
 use crate::node::{ArrowNode, DiagramNode};
 use crate::storage::Storage;
 use crate::view::{ArrowView, DiagramView, Held};
+use block_lists::{Counts, Lists};
 use diagram_terms::Label;
 use indexmap::IndexSet;
 use smallvec::SmallVec;

@@ -1,4 +1,4 @@
-use crate::lists::Lists;
+use block_lists::Lists;
 use diagram_terms::Label;
 use std::marker::Model;
 

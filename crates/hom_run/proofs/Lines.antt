@@ -84,3 +84,7 @@ module _ {A : Type 0} (answers : List A → List Answer) (xs : List A) (i : ℕ)
 pub on_err : {T E P : Type 0} (r : Result T E) → P → OnErr r P
 on_err (Ok x) p = tt
 on_err (Err e) p = p
+
+-- a result has one error
+pub same_error : {T E : Type 0} (r : Result T E) (x y : E) → r ≡ Err x → r ≡ Err y → x ≡ y
+same_error r x y p q = cc

@@ -14,3 +14,4 @@ pub mod TestsOfArrows
 pub mod Visiting
 mod ValidMaps
 pub mod SlicesBeforeLegs
+pub mod SharedSlices

@@ -10,6 +10,7 @@ ghost use Rattle.diagram_terms.specs.Operations.{composite_tree};
 ghost use Rattle.diagram_terms.specs.ValidTrees.{AreComposable};
 
 use crate::map::Map;
+use crate::sharing::put_sharing;
 use hashcons::{AnyId, ArrowId, ArrowNode, Store};
 use smallvec::SmallVec;
 use std::alloc::{AllocError, Global};
@@ -87,11 +88,8 @@ fn composite_anew(
     let heights = composite_heights(alloc, store, g, f)?;
     let regs = regular_composites(alloc, store, dim, g, f)?;
     let sings = singular_composites(alloc, store, dim, g, f)?;
-    store.put_arrow(ArrowNode::Zig {
-        heights,
-        regs,
-        sings,
-    })
+    // where both are plain, the regular slices are those of g
+    put_sharing(store, g, heights, regs, sings)
 }
 
 /// The composite of two arrows of dimension 0: the pair of the first label and the last.

@@ -8,6 +8,7 @@ mod identities;
 mod map;
 mod order;
 mod outcome;
+mod sharing;
 mod slices;
 mod validity;
 mod walk;

@@ -1,6 +1,6 @@
 use Rattle.std.proofs.Common.{◌≡◌, true, slice_get, Some}
 use Rattle.hashcons.specs.declared.tables.DiagramEntry.{DiagramEntry}
-use Rattle.hashcons.proofs.Distinct.{put_is}
+use Rattle.block_lists.proofs.Distinct.{put_is}
 use Rattle.hashcons.proofs.Entries.{diagram_entry_eq, diagram_entries_decide}
 use Rattle.hashcons.proofs.tables.put_diagram_entry.Goals as goal
 

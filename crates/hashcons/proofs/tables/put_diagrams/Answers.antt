@@ -1,5 +1,5 @@
 use Rattle.std.proofs.Common.{◌∙◌, sym, subst, take_all, arith}
-use Rattle.hashcons.specs.Blocks.{Among}
+use Rattle.block_lists.specs.Blocks.{Among}
 use Rattle.hashcons.proofs.Entries.{gains-answer}
 use Rattle.hashcons.proofs.tables.put_diagrams.Goals as goal
 

@@ -10,7 +10,7 @@ use Rattle.io_edge.proofs.Parts.{begun, not_begun, ended, cut_off, stopped, one_
 use Rattle.io_edge.proofs.Rises.{Rose-within}
 use Rattle.hom_run.specs.Full.{Answer, is_yes, line, look_reply, replied}
 use Rattle.hom_run.proofs.Looks.{grown_is_store, entry_place, read_kind, entry_of_store, entry_dim, entry_reply}
-use Rattle.hom_run.proofs.Lines.{on_err, entry_answers, next_entry, next_lines, more_status, reply_line, reply_good, last_status, all_written}
+use Rattle.hom_run.proofs.Lines.{on_err, same_error, entry_answers, next_entry, next_lines, more_status, reply_line, reply_good, last_status, all_written}
 use Rattle.hom_run.proofs.look.write_looks.Goals as goal
 use Rattle.hom_run.proofs.look.write_looks.Goals.{then-not-is_yes, else-not-is_yes}
 
@@ -144,6 +144,5 @@ returns-clause-wrote g c =
 pub returns-in_err-write_line-clause-cause : goal.returns-in_err-write_line-clause-cause
 returns-in_err-write_line-clause-cause g c = λ e.
     let p = err_from_is_err_and c.from_residual-in_err-write_line.result c.from_residual-in_err-write_line.ensures.1 in
-    let own = rw (p.1, p.2) at e in
-    let same : c.in_err-write_line.field-0.0 ≡ WriteFault = cc own in
+    let same : c.in_err-write_line.field-0.0 ≡ WriteFault = sym p.2 ∙ same_error _ _ _ p.1 e in
     Rose-within _ _ _ _ c.loop-entry.invariant.later c.in_err-write_line.ensures.later (c.in_err-write_line.ensures.cause (ap Err same)) (omega arith)

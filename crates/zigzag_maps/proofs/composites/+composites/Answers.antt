@@ -15,16 +15,22 @@ composite-note_composite-requires t c = composite-made _ _ _ _ _ c.requires.oute
 pub composite-returns-clause-made : goal.composite-returns-clause-made
 composite-returns-clause-made t c = Makes-before _ _ _ _ _ _ c.in_ok-arrow.ensures c.note_composite.ensures.grows
 
-pub composite_anew-put_arrow-requires-clause-shape : goal.composite_anew-put_arrow-requires-clause-shape
-composite_anew-put_arrow-requires-clause-shape t c =
+pub composite_anew-put_sharing-requires-clause-shape : goal.composite_anew-put_sharing-requires-clause-shape
+composite_anew-put_sharing-requires-clause-shape t c =
     let is =
     described_composite c.args.store.now c.regular_composites.new.store c.singular_composites.new.store c.args.g c.args.f c.in_ok-heights.heights.items _ _
     c.requires.outer c.requires.inner c.requires.composable (omega arith) c.in_ok-heights.ensures c.in_ok-regs.ensures c.in_ok-sings.ensures
     in
     subst IsArrowTree (sym is) (IsArrowTree-composite_tree _ _ c.requires.composable)
 
-pub composite_anew-put_arrow-requires-clause-children : goal.composite_anew-put_arrow-requires-clause-children
-composite_anew-put_arrow-requires-clause-children t c = made-children _ _ _ _ _ _ _ _ _ c.in_ok-regs.ensures c.in_ok-sings.ensures
+pub composite_anew-put_sharing-requires-clause-children : goal.composite_anew-put_sharing-requires-clause-children
+composite_anew-put_sharing-requires-clause-children t c = made-children _ _ _ _ _ _ _ _ _ c.in_ok-regs.ensures c.in_ok-sings.ensures
+
+pub composite_anew-put_sharing-requires-clause-above : goal.composite_anew-put_sharing-requires-clause-above
+composite_anew-put_sharing-requires-clause-above t c =
+    let grows = Grows-trans _ _ _ c.in_ok-regs.ensures.grows c.in_ok-sings.ensures.grows in
+    let e = ap dimension_of (grows.arrow_trees c.args.g c.requires.outer) in
+    omega (arith, composable-dimension _ _ c.requires.composable)
 
 pub composite_anew-returns : goal.composite_anew-returns
 composite_anew-returns t c =
@@ -32,7 +38,7 @@ composite_anew-returns t c =
     described_composite c.args.store.now c.regular_composites.new.store c.singular_composites.new.store c.args.g c.args.f c.in_ok-heights.heights.items _ _
     c.requires.outer c.requires.inner c.requires.composable (omega arith) c.in_ok-heights.ensures c.in_ok-regs.ensures c.in_ok-sings.ensures
     in
-    Makes-last _ _ _ _ _ _ _ (Grows-trans _ _ _ c.in_ok-regs.ensures.grows c.in_ok-sings.ensures.grows) is c.put_arrow.ensures.made
+    Makes-last _ _ _ _ _ _ _ (Grows-trans _ _ _ c.in_ok-regs.ensures.grows c.in_ok-sings.ensures.grows) is c.put_sharing.ensures
 
 pub regular_composites-composite-requires : goal.regular_composites-composite-requires
 regular_composites-composite-requires t c =

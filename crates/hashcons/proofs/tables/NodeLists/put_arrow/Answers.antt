@@ -1,5 +1,5 @@
 use Rattle.std.proofs.Common.{[], ◌∷◌}
-use Rattle.hashcons.proofs.Distinct.{get-from_slice}
+use Rattle.block_lists.proofs.Distinct.{get-from_slice}
 use Rattle.hashcons.proofs.Entries.{gains-trans, gains_second, among_first}
 use Rattle.hashcons.proofs.tables.NodeLists.put_arrow.Goals as goal
 

@@ -1,5 +1,5 @@
 use Rattle.std.proofs.Common.{[], ◌∷◌}
-use Rattle.hashcons.proofs.Distinct.{among-head, slice-from_get}
+use Rattle.block_lists.proofs.Distinct.{among-head, slice-from_get}
 use Rattle.hashcons.proofs.Entries.{gains-none, gained}
 use Rattle.hashcons.proofs.tables.NodeLists.put_arrow_over.Goals as goal
 

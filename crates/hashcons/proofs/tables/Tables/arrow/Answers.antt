@@ -1,6 +1,6 @@
 use Rattle.std.proofs.Common.{Some, ap, ◌∙◌}
 use Rattle.hashcons.specs.Entries.{arrow_view}
-use Rattle.hashcons.proofs.Distinct.{slice-below, slice-map}
+use Rattle.block_lists.proofs.Distinct.{slice-below, slice-map}
 use Rattle.hashcons.proofs.Entries.{arrow_held}
 use Rattle.hashcons.proofs.tables.Tables.arrow.Goals as goal
 

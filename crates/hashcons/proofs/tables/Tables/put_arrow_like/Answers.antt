@@ -1,7 +1,7 @@
 use Rattle.std.proofs.Common.{[], ◌∷◌, get_or, ◌∙◌, sym, subst}
 use Rattle.hashcons.specs.Entries.{AreHeldBy}
 use Rattle.hashcons.specs.declared.view.ArrowView.TheVariants as shown
-use Rattle.hashcons.proofs.Distinct.{among-tail}
+use Rattle.block_lists.proofs.Distinct.{among-tail}
 use Rattle.hashcons.proofs.Entries.{PutsArrowView, puts_arrow_view, taken_back}
 use Rattle.hashcons.proofs.tables.Tables.put_arrow_like.Goals as goal
 

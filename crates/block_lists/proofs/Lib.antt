@@ -1,0 +1,5 @@
+pub mod Below
+pub mod Cutting
+pub mod Distinct
+pub mod Counting
+pub mod Blocks

@@ -1,8 +1,0 @@
-use Rattle.hashcons.proofs.Growth.{Grows-trans}
-use Rattle.degeneracy_tests.proofs.stored.map_of.Goals as goal
-
-pub returns-in_err-check_map-clause-grows : goal.returns-in_err-check_map-clause-grows
-returns-in_err-check_map-clause-grows c = Grows-trans _ _ _ c.map_at.ensures.grows c.check_map.ensures.grows
-
-pub returns-clause-grows : goal.returns-clause-grows
-returns-clause-grows c = Grows-trans _ _ _ c.map_at.ensures.grows c.check_map.ensures.grows

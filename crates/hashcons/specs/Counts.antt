@@ -1,9 +1,0 @@
--- Counts of lists and of their blocks.
-use Rattle.std.specs.Prelude.{◌≡◌, ℕ, List, length}
-use Rattle.hashcons.specs.declared.lists.Counts.{Counts}
-use Rattle.hashcons.specs.Blocks.{distinct_blocks}
-
--- the counts of these lists
-pub record AreCounts (ls : List (List ℕ)) (counts : Counts) : Type 0 where
-  pub lists : counts.lists ≡ length ls
-  pub blocks : counts.blocks ≡ length (distinct_blocks ls)

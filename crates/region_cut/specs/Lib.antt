@@ -1,0 +1,5 @@
+pub mod RegionValues
+pub mod OverRegions
+pub mod CutTrees
+pub mod PointTrees
+pub mod NextPoints
