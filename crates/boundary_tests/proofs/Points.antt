@@ -44,5 +44,3 @@ module _ (c : Contents) (d : ℕ) (x : Label) (is : diagram_at c d ≡ point x) 
 
   pub parallel_label : AreParallel (diagram_at c d) (diagram_at c d)
   parallel_label = record { dims = refl; sources = λ _. refl; targets = λ _. refl }
-
-pub ruleset points = (valid_label, plain_label, valid_plain_label, label_below, parallel_label)

@@ -1,9 +1,8 @@
-use crate::signatures::{cones_over_types, loop_on, one_too_many};
+use crate::signatures::{loop_on, one_too_many};
 use crate::stored::{
-    MapPlaces, diagram_faults, map_of, place_of, plain_of, squares_of, unit_composites,
+    MapPlaces, cones_beside, diagram_faults, map_fault, over_new_store, plain_of, unit_composites,
 };
 use diagram_terms::{End, Fault, Label, Place, Step};
-use hashcons::Store;
 use std::test::Fail;
 use typecheck::AddRefusal;
 
@@ -57,107 +56,78 @@ fn is_at(found: &Option<Place>, want: Option<(&[Step], End)>) -> bool {
     }
 }
 
+/// The places of the ends and of the arrow of a map.
+fn at(source: usize, target: usize, arrow: usize) -> MapPlaces {
+    MapPlaces {
+        source,
+        target,
+        arrow,
+    }
+}
+
 #[test]
 fn squares_tests_heights_with_an_empty_fibre(rt: HostRuntime) -> Result<(), Fail> {
-    let mut store = Store::new(rt.alloc());
-    let places = MapPlaces {
-        source: 10,
-        target: 9,
-        arrow: 12,
-    };
-    let map = map_of(rt.alloc(), &mut store, EMPTY_FIBRE, places)?;
-    let test = squares_of(rt.alloc(), &mut store, &map)?;
-    assert!(rt; is_at(&place_of(test), Some((&[], End::Square(0)))));
+    let places = at(10, 9, 12);
+    let found = over_new_store(rt.alloc(), |store| map_fault(store, EMPTY_FIBRE, places))?;
+    assert!(rt; is_at(&found, Some((&[], End::Square(0)))));
     Ok(())
 }
 
 #[test]
 fn squares_names_ends_of_another_dimension(rt: HostRuntime) -> Result<(), Fail> {
     for (source, target) in [(2, 2), (0, 2), (2, 0)] {
-        let mut store = Store::new(rt.alloc());
-        let places = MapPlaces {
-            source,
-            target,
-            arrow: 1,
-        };
-        let map = map_of(rt.alloc(), &mut store, TWO_DIMENSIONS, places)?;
-        let test = squares_of(rt.alloc(), &mut store, &map)?;
-        assert!(rt;
-            is_at(&place_of(test), Some((&[], End::Ends))),
-            "{source} {target}"
-        );
+        let places = at(source, target, 1);
+        let found = over_new_store(rt.alloc(), |store| map_fault(store, TWO_DIMENSIONS, places))?;
+        assert!(rt; is_at(&found, Some((&[], End::Ends))), "{source} {target}");
     }
     Ok(())
 }
 
 #[test]
 fn composes_maps(rt: HostRuntime) -> Result<(), Fail> {
-    let mut store = Store::new(rt.alloc());
-    let places = MapPlaces {
-        source: 5,
-        target: 4,
-        arrow: 6,
-    };
-    let map = map_of(rt.alloc(), &mut store, INCLUSION, places)?;
-    let (after_identity, before_identity) = unit_composites(rt.alloc(), &mut store, &map)?;
-    assert_eq!(rt; after_identity, map);
-    assert_eq!(rt; before_identity, map);
-    let unit = store
-        .known_identity(map.source)
-        .ok_or("no identity is noted")?;
-    assert_eq!(rt; store.known_composite(map.arrow, unit), Some(map.arrow));
-    assert_eq!(rt; store.known_composite(unit, map.arrow), None);
+    let places = at(5, 4, 6);
+    let made = over_new_store(rt.alloc(), |store| unit_composites(store, INCLUSION, places))?;
+    assert_eq!(rt; made.after_identity, made.map);
+    assert_eq!(rt; made.before_identity, made.map);
+    let (after, before) = made.noted.ok_or("no identity is noted")?;
+    assert_eq!(rt; after, Some(made.map.arrow));
+    assert_eq!(rt; before, None);
     Ok(())
 }
 
 #[test]
 fn plain_asks_every_slice(rt: HostRuntime) -> Result<(), Fail> {
     let cases = [
-        (INCLUSION, (5, 4, 6), true),
-        (CONES, (10, 16, 21), true),
-        (LOOSE_SLICES, (0, 1, 2), true),
-        (LOOSE_SLICES, (3, 4, 5), false),
-        (LOOSE_SLICES, (8, 9, 10), false),
+        (INCLUSION, at(5, 4, 6), true),
+        (CONES, at(10, 16, 21), true),
+        (LOOSE_SLICES, at(0, 1, 2), true),
+        (LOOSE_SLICES, at(3, 4, 5), false),
+        (LOOSE_SLICES, at(8, 9, 10), false),
     ];
-    for (nodes, (source, target, arrow), want) in cases {
-        let mut store = Store::new(rt.alloc());
-        let places = MapPlaces {
-            source,
-            target,
-            arrow,
-        };
-        let map = map_of(rt.alloc(), &mut store, nodes, places)?;
-        let answer = plain_of(rt.alloc(), &mut store, &map)?;
-        assert_eq!(rt; answer, want, "{nodes} {arrow}");
+    for (nodes, places, want) in cases {
+        let answer = over_new_store(rt.alloc(), |store| plain_of(store, nodes, places))?;
+        assert_eq!(rt; answer, want, "{nodes} {}", places.arrow);
     }
     Ok(())
 }
 
 #[test]
 fn cones_go_over_types(rt: HostRuntime) -> Result<(), Fail> {
-    let mut store = Store::new(rt.alloc());
-    let (over_arrow, over_square) = cones_over_types(rt.alloc(), &mut store)?;
-    let cases = [(over_arrow, (3, 6, 9)), (over_square, (10, 16, 21))];
-    for (cone, (source, target, arrow)) in cases {
-        let places = MapPlaces {
-            source,
-            target,
-            arrow,
-        };
-        let want = map_of(rt.alloc(), &mut store, CONES, places)?;
-        assert_eq!(rt; cone, want);
-    }
+    let places = (at(3, 6, 9), at(10, 16, 21));
+    let (over_arrow, over_square) =
+        over_new_store(rt.alloc(), |store| cones_beside(store, CONES, places))?;
+    assert_eq!(rt; over_arrow.0, over_arrow.1);
+    assert_eq!(rt; over_square.0, over_square.1);
     Ok(())
 }
 
 #[test]
 fn generators_are_refused(rt: HostRuntime) -> Result<(), Fail> {
-    let mut store = Store::new(rt.alloc());
-    let (answer, len) = one_too_many(rt.alloc(), &mut store)?;
+    let (answer, len) = over_new_store(rt.alloc(), one_too_many)?;
     assert!(rt; matches!(answer, Err(AddRefusal::CountLimit)));
     assert_eq!(rt; len, 60_000);
     let unknown = Label { number: 1, dim: 0 };
-    let answer = loop_on(rt.alloc(), &mut store, unknown)?;
+    let answer = over_new_store(rt.alloc(), |store| loop_on(store, unknown))?;
     let Err(AddRefusal::IllTyped(Fault::LabelAt(point))) = answer else {
         panic!(rt; "a loop on no generator");
     };
@@ -180,7 +150,8 @@ fn both_tests_of_validity_agree(rt: HostRuntime) -> Result<(), Fail> {
         (cube.as_str(), 13, Some((&to_slice[..1], End::Square(0)))),
     ];
     for (nodes, place, want) in cases {
-        let (plain, stored) = diagram_faults(alloc, nodes, place)?;
+        let (plain, stored) =
+            over_new_store(alloc, |store| diagram_faults(store, nodes, place))?;
         assert!(rt; is_at(&plain, want), "{nodes}");
         assert!(rt; is_at(&stored, want), "{nodes}");
     }

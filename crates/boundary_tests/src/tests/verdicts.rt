@@ -1,11 +1,11 @@
-ghost use Rattle.std.specs.Prelude.{◌≡◌, [], IfOk, OnOk, length};
-ghost use Rattle.hashcons.specs.Contents.{IsDiagramOf};
-ghost use Rattle.typecheck.specs.Signatures.{IsGoodOver};
+ghost use Rattle.std.specs.Prelude.{◌≡◌, ◌+◌, [], IfOk, OnOk, length};
+ghost use Rattle.hashcons.specs.Contents.{Grows, IsDiagramOf};
+ghost use Rattle.typecheck.specs.Signatures.{IsBoundaryOf, IsGoodOver};
 
-use super::ends_of;
+use super::{over_new_store, read_of};
 use diagram_terms::{Fault, Label};
-use hashcons::{AnyId, DiagramId, Store};
-use std::alloc::Global;
+use hashcons::{DiagramId, Store};
+use std::alloc::AllocError;
 use std::test::Fail;
 use store_fixtures::{label_of, put_label};
 use typecheck::{AddRefusal, Signature, Verdict};
@@ -14,8 +14,25 @@ const X: Label = Label { number: 0, dim: 0 };
 
 const F: Label = Label { number: 1, dim: 1 };
 
-/// Adds x, and f from x to x. The types of both.
-#[tactic(auto, using(hashcons::proofs::Growth::growth, typecheck::proofs::ForCallers::signatures))]
+/// Adds a generator with this boundary, or without one. Its type.
+fn add_typed(
+    store: &mut Store,
+    signature: &mut Signature,
+    boundary: Option<(DiagramId, DiagramId)>,
+) -> Result<DiagramId, AddRefusal>
+    requires good { IsGoodOver store.old signature.old }
+    requires of_store { IsBoundaryOf store.old boundary }
+    ensures of_store { IfOk result (IsDiagramOf store.new) }
+    ensures one_more { OnOk result (length signature.new.entries ≡ length signature.old.entries + 1) }
+    ensures good { IsGoodOver store.new signature.new }
+    ensures grows { Grows store.old store.new }
+{
+    let _ = signature.add(store, boundary)?;
+    let last = signature.len() - 1;
+    Ok(signature.generator_type(store, last)?)
+}
+
+/// Adds x, and f from x to x, to no generators. The types of both.
 fn add_loop(
     store: &mut Store,
     signature: &mut Signature,
@@ -26,62 +43,109 @@ fn add_loop(
     ensures two { OnOk result (length signature.new.entries ≡ 2) }
     ensures good { IsGoodOver store.new signature.new }
 {
-    let _ = signature.add(store, None)?;
-    let point = signature.generator_type(store, 0)?;
-    let _ = signature.add(store, Some((point, point)))?;
-    let whole = signature.generator_type(store, 1)?;
+    let point = add_typed(store, signature, None)?;
+    let whole = add_typed(store, signature, Some((point, point)))?;
     Ok((point, whole))
 }
 
+/// The labels of x and of f.
+fn labels_of_loop(store: &mut Store) -> Result<(Label, Label), AddRefusal> {
+    let mut signature = Signature::new(store.allocator());
+    let _types = add_loop(store, &mut signature)?;
+    Ok((signature.label(0), signature.label(1)))
+}
+
+/// What is read of the types of x and of f.
+#[derive(Drop)]
+struct LoopRead {
+    point: DiagramId,
+    label: Option<Label>,
+    whole: (usize, usize, Option<(DiagramId, DiagramId)>),
+}
+
+fn read_loop(store: &mut Store) -> Result<LoopRead, AddRefusal> {
+    let mut signature = Signature::new(store.allocator());
+    let (point, whole) = add_loop(store, &mut signature)?;
+    Ok(LoopRead {
+        point,
+        label: label_of(store, point),
+        whole: read_of(store, whole),
+    })
+}
+
 #[test]
-#[tactic(auto, using(typecheck::proofs::ForCallers::signatures))]
 fn labels_and_types(rt: HostRuntime) -> Result<(), Fail> {
-    let mut store = Store::new(rt.alloc());
-    let mut signature = Signature::new(rt.alloc());
-    let (point, whole) = add_loop(&mut store, &mut signature)?;
-    assert_eq!(rt; signature.label(0), X);
-    assert_eq!(rt; signature.label(1), F);
-    assert_eq!(rt; label_of(&store, point), Some(X));
-    assert_eq!(rt; store.dim(AnyId::Diagram(whole)), 1);
-    assert_eq!(rt; store.length(whole), 1);
-    assert_eq!(rt; ends_of(&store, whole), Some((point, point)));
+    let (x, f) = over_new_store(rt.alloc(), labels_of_loop)?;
+    assert_eq!(rt; x, X);
+    assert_eq!(rt; f, F);
+    let read = over_new_store(rt.alloc(), read_loop)?;
+    assert_eq!(rt; read.label, Some(X));
+    let (dim, length, ends) = read.whole;
+    assert_eq!(rt; dim, 1);
+    assert_eq!(rt; length, 1);
+    assert_eq!(rt; ends, Some((read.point, read.point)));
     Ok(())
 }
 
-/// What is answered to a generator from x to the type of f, and the verdicts on that type and on the
-/// diagram of the label of f.
-#[tactic(auto, using(typecheck::proofs::ForCallers::signatures))]
-fn answers_over_a_loop(
-    alloc: Global,
-) -> Result<(Result<Label, AddRefusal>, Verdict, Verdict), AddRefusal> {
-    let mut store = Store::new(alloc);
-    let mut signature = Signature::new(alloc);
-    let (point, whole) = add_loop(&mut store, &mut signature)?;
-    let refused = signature.add(&mut store, Some((point, whole)));
-    let on_type = signature.check(&mut store, whole)?;
-    let f = put_label(&mut store, F)?;
-    let on_label = signature.check(&mut store, f)?;
-    Ok((refused, on_type, on_label))
+/// What is answered to a generator from x to the type of f.
+fn added_over_a_loop(store: &mut Store) -> Result<Result<Label, AddRefusal>, AddRefusal> {
+    let mut signature = Signature::new(store.allocator());
+    let (point, whole) = add_loop(store, &mut signature)?;
+    Ok(signature.add(store, Some((point, whole))))
+}
+
+/// The verdict on the type of f.
+fn verdict_on_type(store: &mut Store) -> Result<Verdict, AddRefusal> {
+    let mut signature = Signature::new(store.allocator());
+    let (_point, whole) = add_loop(store, &mut signature)?;
+    Ok(signature.check(store, whole)?)
+}
+
+/// The verdict on the diagram of a label.
+fn verdict_on_label(
+    store: &mut Store,
+    signature: &mut Signature,
+    label: Label,
+) -> Result<Verdict, AllocError>
+    requires { IsGoodOver store.old signature.old }
+{
+    let d = put_label(store, label)?;
+    signature.check(store, d)
+}
+
+/// The verdict on the diagram of the label of f.
+fn verdict_on_f(store: &mut Store) -> Result<Verdict, AddRefusal> {
+    let mut signature = Signature::new(store.allocator());
+    let _types = add_loop(store, &mut signature)?;
+    Ok(verdict_on_label(store, &mut signature, F)?)
 }
 
 #[test]
 fn refusals_and_verdicts(rt: HostRuntime) -> Result<(), Fail> {
-    let (refused, on_type, on_label) = answers_over_a_loop(rt.alloc())?;
+    let refused = over_new_store(rt.alloc(), added_over_a_loop)?;
     assert!(rt; matches!(refused, Err(AddRefusal::DimDiffers)));
+    let on_type = over_new_store(rt.alloc(), verdict_on_type)?;
     assert!(rt; matches!(on_type, Verdict::Yes));
+    let on_label = over_new_store(rt.alloc(), verdict_on_f)?;
     assert!(rt; matches!(on_label, Verdict::No(Fault::TypeAt(_))));
     Ok(())
 }
 
-#[test]
-#[tactic(auto, using(hashcons::proofs::Growth::growth, typecheck::proofs::ForCallers::signatures))]
-fn put_back_after_remove_last(rt: HostRuntime) -> Result<(), Fail> {
-    let mut store = Store::new(rt.alloc());
-    let mut signature = Signature::new(rt.alloc());
-    let _ = signature.add(&mut store, None)?;
+/// How many generators there are when the only one was taken away, and when it was put back.
+#[tactic(auto, using(typecheck::proofs::ForCallers::signatures))]
+fn taken_and_put_back(store: &mut Store) -> Result<(usize, usize), AddRefusal> {
+    let mut signature = Signature::new(store.allocator());
+    let _ = signature.add(store, None)?;
     signature.remove_last();
-    assert_eq!(rt; signature.len(), 0);
-    signature.put_back(&store, None);
-    assert_eq!(rt; signature.len(), 1);
+    let taken = signature.len();
+    signature.put_back(store, None);
+    Ok((taken, signature.len()))
+}
+
+#[test]
+fn put_back_after_remove_last(rt: HostRuntime) -> Result<(), Fail> {
+    let (taken, put_back) = over_new_store(rt.alloc(), taken_and_put_back)?;
+    assert_eq!(rt; taken, 0);
+    assert_eq!(rt; put_back, 1);
     Ok(())
 }

@@ -23,6 +23,12 @@ cone-requires c =
       labels = ends.source_labels;
     }
 
+pub add-requires-clause-good : goal.add-requires-clause-good
+add-requires-clause-good c = good-kept _ _ c.args.signature.now.entries c.generator_type.ensures.grows c.requires.good
+
+pub returns-in_err-d-clause-good : goal.returns-in_err-d-clause-good
+returns-in_err-d-clause-good c = good-kept _ _ c.args.signature.now.entries c.generator_type.ensures.grows c.requires.good
+
 pub returns-in_err-cone-clause-good : goal.returns-in_err-cone-clause-good
 returns-in_err-cone-clause-good c =
     good-kept c.add.new.store c.cone.new.store c.add.new.self.entries c.cone.ensures.made.grows c.add.ensures.good

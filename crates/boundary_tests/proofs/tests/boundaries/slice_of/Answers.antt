@@ -1,8 +1,0 @@
-use Rattle.hashcons.specs.declared.id.AnyId.TheVariants as id
-use Rattle.store_fixtures.proofs.PlacedIds.{id_of_store}
-use Rattle.boundary_tests.proofs.tests.boundaries.slice_of.Goals as goal
-
-pub slice-requires : goal.slice-requires
-slice-requires c =
-    id_of_store c.put_nodes.new.self c.in_ok-ids.ids.items _ _ c.in_ok-ids.ensures.ids 4 (id.Diagram c.in_ok-d.d)
-    (rw c.deref.ensures.value at c.in_ok-d.ensures)
