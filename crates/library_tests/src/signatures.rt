@@ -48,9 +48,7 @@ fn next_cone(alloc: Global, store: &mut Store, signature: &mut Signature) -> Res
 
 /// What is answered to one more generator where 60,000 are there, and how many are there after it.
 #[tactic(auto, using(typecheck::proofs::ForCallers::signatures))]
-pub(crate) fn one_too_many(
-    store: &mut Store,
-) -> Result<(Result<Label, AddRefusal>, usize), Fail> {
+pub(crate) fn one_too_many(store: &mut Store) -> Result<(Result<Label, AddRefusal>, usize), Fail> {
     let mut signature = Signature::new(store.allocator());
     for _n in 0..60_000 {
         let _ = signature.add(store, None)?;

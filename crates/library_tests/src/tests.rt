@@ -86,7 +86,10 @@ fn squares_names_ends_of_another_dimension(rt: HostRuntime) -> Result<(), Fail> 
 #[test]
 fn composes_maps(rt: HostRuntime) -> Result<(), Fail> {
     let places = at(5, 4, 6);
-    let made = over_new_store(rt.alloc(), |store| unit_composites(store, INCLUSION, places))?;
+    let made = over_new_store(
+        rt.alloc(),
+        |store| unit_composites(store, INCLUSION, places),
+    )?;
     assert_eq!(rt; made.after_identity, made.map);
     assert_eq!(rt; made.before_identity, made.map);
     let (after, before) = made.noted.ok_or("no identity is noted")?;
@@ -114,8 +117,10 @@ fn plain_asks_every_slice(rt: HostRuntime) -> Result<(), Fail> {
 #[test]
 fn cones_go_over_types(rt: HostRuntime) -> Result<(), Fail> {
     let places = (at(3, 6, 9), at(10, 16, 21));
-    let (over_arrow, over_square) =
-        over_new_store(rt.alloc(), |store| cones_beside(store, CONES, places))?;
+    let (over_arrow, over_square) = over_new_store(
+        rt.alloc(),
+        |store| cones_beside(store, CONES, places),
+    )?;
     assert_eq!(rt; over_arrow.0, over_arrow.1);
     assert_eq!(rt; over_square.0, over_square.1);
     Ok(())
@@ -150,8 +155,7 @@ fn both_tests_of_validity_agree(rt: HostRuntime) -> Result<(), Fail> {
         (cube.as_str(), 13, Some((&to_slice[..1], End::Square(0)))),
     ];
     for (nodes, place, want) in cases {
-        let (plain, stored) =
-            over_new_store(alloc, |store| diagram_faults(store, nodes, place))?;
+        let (plain, stored) = over_new_store(alloc, |store| diagram_faults(store, nodes, place))?;
         assert!(rt; is_at(&plain, want), "{nodes}");
         assert!(rt; is_at(&stored, want), "{nodes}");
     }
