@@ -1,4 +1,4 @@
-ghost use Rattle.std.specs.Prelude.{◌≡◌, ◌+◌, [], IfOk, OnOk, length};
+ghost use Rattle.std.specs.Prelude.{◌≡◌, ◌+◌, [], IfOk, OnOk, Some, length};
 ghost use Rattle.hashcons.specs.Contents.{Grows, IsDiagramOf};
 ghost use Rattle.typecheck.specs.Signatures.{IsBoundaryOf, IsGoodOver};
 
@@ -94,11 +94,26 @@ fn added_over_a_loop(store: &mut Store) -> Result<Result<Label, AddRefusal>, Add
     Ok(signature.add(store, Some((point, whole))))
 }
 
-/// The verdict on the type of f.
-fn verdict_on_type(store: &mut Store) -> Result<Verdict, AddRefusal> {
+/// Whether a generator with this boundary is refused.
+fn is_refused(
+    store: &mut Store,
+    signature: &mut Signature,
+    boundary: (DiagramId, DiagramId),
+) -> bool
+    requires good { IsGoodOver store.old signature.old }
+    requires of_store { IsBoundaryOf store.old (Some boundary) }
+    ensures good { IsGoodOver store.new signature.new }
+    ensures grows { Grows store.old store.new }
+{
+    signature.add(store, Some(boundary)).is_err()
+}
+
+/// Whether a generator from x to the type of f is refused, and then the verdict on that type.
+fn verdict_on_type(store: &mut Store) -> Result<(bool, Verdict), AddRefusal> {
     let mut signature = Signature::new(store.allocator());
-    let (_point, whole) = add_loop(store, &mut signature)?;
-    Ok(signature.check(store, whole)?)
+    let (point, whole) = add_loop(store, &mut signature)?;
+    let refused = is_refused(store, &mut signature, (point, whole));
+    Ok((refused, signature.check(store, whole)?))
 }
 
 /// The verdict on the diagram of a label.
@@ -124,7 +139,8 @@ fn verdict_on_f(store: &mut Store) -> Result<Verdict, AddRefusal> {
 fn refusals_and_verdicts(rt: HostRuntime) -> Result<(), Fail> {
     let refused = over_new_store(rt.alloc(), added_over_a_loop)?;
     assert!(rt; matches!(refused, Err(AddRefusal::DimDiffers)));
-    let on_type = over_new_store(rt.alloc(), verdict_on_type)?;
+    let (refused, on_type) = over_new_store(rt.alloc(), verdict_on_type)?;
+    assert!(rt; refused);
     assert!(rt; matches!(on_type, Verdict::Yes));
     let on_label = over_new_store(rt.alloc(), verdict_on_f)?;
     assert!(rt; matches!(on_label, Verdict::No(Fault::TypeAt(_))));
