@@ -8,20 +8,20 @@ use Rattle.diagram_terms.specs.declared.place.Place.{Place}
 use Rattle.diagram_terms.specs.Tree.{Tree, sings}
 use Rattle.diagram_terms.specs.Family.{length_of}
 use Rattle.diagram_terms.specs.Decoded.{dia}
-use Rattle.diagram_terms.specs.Shape.{IsDiagram, IsArrow}
+use Rattle.diagram_terms.specs.Shape.{IsDiagram}
 use Rattle.diagram_terms.specs.Places.{first_bad_place}
 use Rattle.diagram_terms.specs.Dimension.{dimension_of}
-use Rattle.diagram_terms.specs.Nodes.{AreNodes, tree_at}
+use Rattle.diagram_terms.specs.Nodes.{tree_at}
 use Rattle.diagram_terms.proofs.Dimensions.{diagram_dimension}
 use Rattle.diagram_terms.proofs.NodeShapes.{diagram_at, dim_of-sort_at}
 use Rattle.diagram_terms.proofs.NodeTests.{dim_of}
 use Rattle.diagram_terms.proofs.Shapes.{one_kind}
 use Rattle.hashcons.specs.declared.id.AnyId.{AnyId}
 use Rattle.hashcons.specs.declared.id.AnyId.TheVariants as id
-use Rattle.hashcons.specs.Contents.{Contents, IsStore}
-pub use Rattle.hashcons.proofs.EmptyStore.{grown_is_store}
+use Rattle.hashcons.specs.Contents.{Contents, Grows}
 use Rattle.hashcons.specs.Contents as store
-use Rattle.hashcons.specs.Ids.{GathersIds, IsOf, IsDiagramId, id_at, tree_of}
+use Rattle.hashcons.specs.Ids.{IsOf, IsDiagramId, id_at, tree_of}
+use Rattle.hashcons.proofs.PlacedIds.{ids-grow}
 use Rattle.node_json.specs.declared.document.DiagramEntry.{DiagramEntry}
 use Rattle.node_json.specs.declared.document.Document.{Document}
 use Rattle.node_json.specs.Documents.{IsDocument, IsDiagramPlace}
@@ -29,6 +29,7 @@ use Rattle.workspace_json.specs.declared.reply.Reply.{Reply}
 use Rattle.workspace_json.specs.declared.reply.Reply.TheVariants.{Look}
 use Rattle.session_undo.proofs.TreeLengths.{tree_length}
 use Rattle.hom_run.specs.Full.{looked_at, tree_reply, look_reply}
+use Rattle.hom_run.specs.Stored.{HoldsDocument, IsDiagramAt, reply_at}
 
 pub looked : (name : List ℕ) (t : Tree) (d len : ℕ) (at : Option Place) → IsDiagram d t → len ≡ length (sings t)
     → at ≡ first_bad_place (dimension_of t) (dia (dimension_of t) t) → Look d len name at ≡ tree_reply name t
@@ -38,58 +39,55 @@ looked name t d len at shape len_is at_is =
     let r : at ≡ first_bad_place d (dia d t) = at_is ∙ ap (λ (n : ℕ). first_bad_place n (dia n t)) e in
     (λ i. Look d (q i) name (r i)) ∙ ap (λ (n : ℕ). looked_at name n (dia n t)) (sym e)
 
--- ---- the diagram at a place
+-- ---- the diagram at a place of a document that the store holds
 
-module _ (nodes : List Node) (form : AreNodes nodes) (c : Contents) (ids : List AnyId) (of : GathersIds c ids (length nodes) (tree_at nodes))
-    (is_store : IsStore c) (place : ℕ) (at : IsDiagramPlace nodes place) where
-  pub place_within : place < length ids
-  place_within = let l = of.len in let w = at.within in omega arith
+-- the id at a place, read with another id where there is none
+pub read_id : (ids : List AnyId) (place : ℕ) (x : AnyId) → place < length ids → x ≡ get_or ids place x → x ≡ id_at ids place
+read_id ids place x within is = is ∙ get_or_default ids place x (id.Diagram 0) within
 
-  place_shape : IsDiagram at.dim (tree_at nodes place)
-  place_shape = diagram_at nodes form place at.dim at.within at.stands
+module _ (c : Contents) (ids : List AnyId) (document : Document) (held : HoldsDocument c ids document) (place : ℕ)
+    (at : IsDiagramPlace document.nodes place) where
+  pub tree_there : tree_of c (id_at ids place) ≡ tree_at document.nodes place
+  tree_there = held.ids.are place at.within
 
-  kind : (x : AnyId) → IsOf c x → tree_of c x ≡ tree_at nodes place → IsDiagramId x
-  kind (id.Diagram d) l e = tt
-  kind (id.Arrow a) l e = absurd (one_kind at.dim (dimension_of (store.arrow_at c a)) (tree_at nodes place) place_shape (subst (IsArrow (dimension_of (store.arrow_at c a))) e (is_store.arrows a l)))
+  shape_there : IsDiagram at.dim (tree_of c (id_at ids place))
+  shape_there = subst (IsDiagram at.dim) (sym tree_there) (diagram_at document.nodes held.form.nodes place at.dim at.within at.stands)
 
-  place_kind : IsDiagramId (id_at ids place)
-  place_kind = kind (id_at ids place) (of.of_store place at.within) (of.are place at.within)
+  kind : (x : AnyId) → IsOf c x → IsDiagram at.dim (tree_of c x) → IsDiagramId x
+  kind (id.Diagram d) l shape = tt
+  kind (id.Arrow a) l shape = absurd (one_kind at.dim (dimension_of (store.arrow_at c a)) (store.arrow_at c a) shape (held.store.arrows a l))
 
-  read_id : (x : AnyId) → x ≡ get_or ids place x → x ≡ id_at ids place
-  read_id x is = is ∙ get_or_default ids place x (id.Diagram 0) place_within
-
-  pub read_kind : (x : AnyId) → x ≡ get_or ids place x → IsDiagramId x
-  read_kind x is = subst IsDiagramId (sym (read_id x is)) place_kind
-
-  pub place_dim : dimension_of (tree_at nodes place) ≤ GREATEST_DIM
-  place_dim =
-      let e = diagram_dimension at.dim (tree_at nodes place) place_shape in
+  dim_there : dimension_of (tree_of c (id_at ids place)) ≤ GREATEST_DIM
+  dim_there =
+      let e = diagram_dimension at.dim (tree_of c (id_at ids place)) shape_there in
       let s = ap dim_of at.stands in
-      let l = dim_of-sort_at nodes form place at.within in
+      let l = dim_of-sort_at document.nodes held.form.nodes place at.within in
       omega arith
+
+  pub diagram_there : IsDiagramAt c ids place
+  diagram_there = record {
+    within = let l = held.ids.len in let w = at.within in omega arith;
+    kind = kind (id_at ids place) (held.ids.of_store place at.within) shape_there;
+    of_store = held.ids.of_store place at.within;
+    dim = dim_there;
+  }
+
+pub holds-grow : (old new : Contents) (ids : List AnyId) (document : Document) → Grows old new → HoldsDocument old ids document → HoldsDocument new ids document
+holds-grow old new ids document grows held = record {
+  form = held.form;
+  store = grows.store held.store;
+  ids = ids-grow old new ids (length document.nodes) (tree_at document.nodes) grows held.ids;
+}
 
 -- ---- the entry that a loop has come to
 
-pub entry_place : (document : Document) → IsDocument document → (i : ℕ) (entry : DiagramEntry) → i < length document.diagrams
-    → entry ≡ get_or document.diagrams i entry → IsDiagramPlace document.nodes entry.root
-entry_place document form i entry l is =
-    subst (λ (e : DiagramEntry). IsDiagramPlace document.nodes e.root) (sym is)
-    (All-get_or (λ (e : DiagramEntry). IsDiagramPlace document.nodes e.root) document.diagrams i entry l form.diagrams)
+module _ (document : Document) (form : IsDocument document) (i : ℕ) (entry : DiagramEntry) (within : i < length document.diagrams)
+    (is : entry ≡ get_or document.diagrams i entry) where
+  pub entry_place : IsDiagramPlace document.nodes entry.root
+  entry_place =
+      subst (λ (e : DiagramEntry). IsDiagramPlace document.nodes e.root) (sym is)
+      (All-get_or (λ (e : DiagramEntry). IsDiagramPlace document.nodes e.root) document.diagrams i entry within form.diagrams)
 
-module _ (nodes : List Node) (form : AreNodes nodes) (old : Contents) (ids : List AnyId) (of : GathersIds old ids (length nodes) (tree_at nodes))
-    (is_store : IsStore old) (entry : DiagramEntry) (at : IsDiagramPlace nodes entry.root) (x : AnyId) (d : ℕ)
-    (is : x ≡ get_or ids entry.root x) (names : x ≡ id.Diagram d) where
-  named : id_at ids entry.root ≡ id.Diagram d
-  named = sym (read_id nodes form old ids of is_store entry.root at x is) ∙ names
-
-  pub entry_of_store : store.IsDiagramOf old d
-  entry_of_store = subst (IsOf old) named (of.of_store entry.root at.within)
-
-  pub entry_tree : store.diagram_at old d ≡ tree_at nodes entry.root
-  entry_tree = ap (tree_of old) (sym named) ∙ of.are entry.root at.within
-
-  pub entry_dim : dimension_of (store.diagram_at old d) ≤ GREATEST_DIM
-  entry_dim = subst (λ (t : Tree). dimension_of t ≤ GREATEST_DIM) (sym entry_tree) (place_dim nodes form old ids of is_store entry.root at)
-
-  pub entry_reply : (reply : Reply) → reply ≡ tree_reply entry.name (store.diagram_at old d) → reply ≡ look_reply nodes entry
-  entry_reply reply e = e ∙ ap (tree_reply entry.name) entry_tree
+pub reply_there : (c : Contents) (ids : List AnyId) (document : Document) → HoldsDocument c ids document
+    → (entry : DiagramEntry) → IsDiagramPlace document.nodes entry.root → reply_at c ids entry ≡ look_reply document.nodes entry
+reply_there c ids document held entry place = ap (tree_reply entry.name) (tree_there c ids document held entry.root place)

@@ -1,21 +1,30 @@
 -- The answers to lines, and what a replay makes of an input.
-use Rattle.std.proofs.Common.{◌≡◌, ℕ, List, [], ◌∷◌, ◌++◌, append_assoc, append-nil, Bool, true, false, Option, Some, None, IfSome, Result, Ok, refl, sym, ap, ◌∙◌, subst}
+use Rattle.std.proofs.Common.{◌≡◌, ℕ, List, [], ◌∷◌, ◌++◌, append_assoc, append-nil, Bool, true, false, Option, Some, None, IfSome, refl, sym, ap, ◌∙◌, subst}
 use Rattle.std.specs.Prelude.{if◌then◌else◌}
-use Rattle.std.specs.List.{list_all}
 use Rattle.std.proofs.lemmas.Grind.{flat_map-append}
-use Rattle.node_json.specs.declared.fault.FormFault.{FormFault}
-use Rattle.workspace_json.specs.declared.command.Command.{Command}
-use Rattle.workspace_json.specs.declared.reply.Reply.{Reply}
 use Rattle.workspace_json.specs.Commands.{exact_command}
-use Rattle.workspace_json.specs.Sessions.{Session, Stepped, new_session, step}
+use Rattle.workspace_json.specs.Sessions.{Session, new_session}
 use Rattle.io_edge.specs.Lines.{Lines, lines_of}
 use Rattle.hom_run.specs.declared.status.Status.{Status}
 use Rattle.hom_run.specs.declared.status.Status.TheVariants as status
-use Rattle.hom_run.specs.Full.{Answer, answer_line, Reads, Run, Writes, answered, answered_to, answers_from, answering, is_good_answer, is_yes, replay_of, replay_run, replays}
-use Rattle.hom_run.proofs.Lines.{answers_text, reply_good}
+use Rattle.hom_run.specs.Full.{Answer, Answered, answer_line, Reads, Run, Writes, answered, answered_to, answers_from, answering, is_blank, replay_of, replay_run, replays}
+use Rattle.hom_run.proofs.Lines.{answers_text}
 use Rattle.hom_run.proofs.Takings.{AreTaken, lines_before}
 
 -- ---- the answers to lines
+
+-- no answer, and the same session
+abbrev pub unanswered : Session → Answered
+unanswered s = record { answers = []; session = s }
+
+-- none to a blank line, and to another that to what it is read as
+pub answered_blank : (s : Session) (bytes : List ℕ) → is_blank bytes ≡ true → unanswered s ≡ answered s bytes
+unfolding answered
+answered_blank s bytes blank = ap (λ (b : Bool). if b then unanswered s else answered_to s (exact_command bytes)) (sym blank)
+
+pub answered_line : (s : Session) (bytes : List ℕ) → is_blank bytes ≡ false → answered_to s (exact_command bytes) ≡ answered s bytes
+unfolding answered
+answered_line s bytes not_blank = ap (λ (b : Bool). if b then unanswered s else answered_to s (exact_command bytes)) (sym not_blank)
 
 -- the session behind lines
 abbrev pub session_after : Session → List (List ℕ) → Session
@@ -45,14 +54,6 @@ pub text_of_front : (lines : List (List ℕ)) (rest : Lines)
 text_of_front lines rest =
     ap answers_text (answers_from-append new_session lines rest.lines)
     ∙ flat_map-append answer_line (answers_from new_session lines) (answers_from (session_after new_session lines) rest.lines)
-
--- ---- the answer to a command
-
-pub replied_good : (s s' : Session) (bytes : List ℕ) (command : Command) (reply : Reply) (good : Bool) → exact_command bytes ≡ Ok command
-    → step s command ≡ record { reply = reply; session = s' } → good ≡ is_yes reply → good ≡ list_all is_good_answer (answered_to s (exact_command bytes)).answers
-replied_good s s' bytes command reply good is made e =
-    reply_good good (step s command).reply (e ∙ ap (λ (t : Stepped). is_yes t.reply) (sym made))
-    ∙ ap (λ (read : Result Command FormFault). list_all is_good_answer (answered_to s read).answers) (sym is)
 
 -- ---- the run
 

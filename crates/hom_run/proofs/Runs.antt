@@ -1,8 +1,8 @@
 -- What a run makes of its words and its input.
-use Rattle.std.proofs.Common.{◌≡◌, ℕ, ◌+◌, ◌<◌, ◌≤◌, List, length, Option, Result, Ok, Err, Some, None, IsSome, refl, sym, subst, ◌∙◌}
+use Rattle.std.proofs.Common.{◌≡◌, ℕ, ◌+◌, ◌<◌, ◌≤◌, List, [], append-nil, length, IfOk, OnErr, OnOk, Option, Result, Ok, Err, Some, None, IsSome, refl, sym, subst, ◌∙◌}
 use Rattle.std.specs.Prelude.{option_map}
 use Rattle.std.proofs.lemmas.Bool.{false≢true, lt-ltb, le-ltb}
-use Rattle.std.specs.Io.KnownBytes.{Keeps}
+use Rattle.std.specs.Io.KnownBytes.{Appends, Keeps}
 use Rattle.std.proofs.KnownBytes.{Appends-nil}
 use Rattle.node_json.specs.Reading.{exact_document}
 use Rattle.node_json.specs.declared.document.Document.{Document}
@@ -12,12 +12,42 @@ use Rattle.hom_run.specs.declared.status.Status.TheVariants as status
 use Rattle.hom_run.specs.Modes.{question_run}
 use Rattle.hom_run.specs.Taken.{AfterReadFault, AfterWriteFault}
 use Rattle.io_edge.specs.declared.limits.TheConstants.{INPUT_LIMIT}
+use Rattle.io_edge.specs.declared.whole.WriteAllFault.{WriteAllFault}
+use Rattle.io_edge.specs.declared.whole.WriteAllFault.TheVariants as stop
+use Rattle.io_edge.specs.Transfers.{AppendsPrefix}
 use Rattle.hom_run.specs.Full.{IsTooMuch, Mode, Question, Reads, Run, Writes, asks, full, mode_of, on_document, on_input}
 
 -- what is there
 pub there : {A : Type 0} (o : Option A) → IsSome o → (x : A) × (o ≡ Some x)
 there None h = absurd (false≢true h)
 there (Some x) h = (x, refl)
+
+-- ---- what was written
+
+-- the whole text is a prefix of itself
+whole_prefix : (old new : Option (List ℕ)) (text : List ℕ) → Appends old new text → AppendsPrefix old new text
+whole_prefix old new text wrote = record { part = text; rest = []; whole = append-nil text; appended = wrote }
+
+writes_whole : (run : Run) (s : Status) (old new : Option (List ℕ)) → s ≡ run.status → Appends old new run.text → Writes run s old new
+writes_whole run status.Done old new is wrote = (is, wrote)
+writes_whole run status.Refused old new is wrote = (is, wrote)
+writes_whole run status.Usage old new is wrote = (is, wrote)
+writes_whole run status.Form old new is wrote = (is, wrote)
+writes_whole run status.TooLong old new is wrote = (is, wrote)
+writes_whole run status.ReadFault old new is wrote = whole_prefix old new run.text wrote
+writes_whole run status.WriteFault old new is wrote = whole_prefix old new run.text wrote
+writes_whole run status.NoMemory old new is wrote = whole_prefix old new run.text wrote
+
+-- what a call wrote whose result became a status
+pub writes_result : (run : Run) (wrote : Result Status WriteAllFault) (s : Status) (old new : Option (List ℕ))
+    → IfOk wrote (λ t. t ≡ run.status) → OnOk wrote (Appends old new run.text) → OnErr wrote (AppendsPrefix old new run.text)
+    → IfOk wrote (λ t. s ≡ t) → (wrote ≡ Err stop.WriteFault → s ≡ status.WriteFault) → (wrote ≡ Err stop.NoMemory → s ≡ status.NoMemory)
+    → Writes run s old new
+writes_result run (Ok t) s old new ok all cut is write memory = writes_whole run s old new (is ∙ ok) all
+writes_result run (Err stop.WriteFault) s old new ok all cut is write memory = subst (λ (t : Status). Writes run t old new) (sym (write refl)) cut
+writes_result run (Err stop.NoMemory) s old new ok all cut is write memory = subst (λ (t : Status). Writes run t old new) (sym (memory refl)) cut
+
+-- ---- words
 
 -- words that ask for nothing
 pub writes_usage : (words : List (List ℕ)) (bytes : List ℕ) (old : Option (List ℕ)) → mode_of words ≡ None → Writes (full words bytes) status.Usage old old

@@ -1,18 +1,21 @@
-ghost use Rattle.std.specs.Prelude.{◌≡◌, ◌≢◌, ◌≤◌, ℕ, List, Some, IfOk, IfSome, IsErrOf, OnErr, OnOk, if◌then◌else◌};
+ghost use Rattle.std.specs.Prelude.{◌≡◌, ◌≢◌, ◌≤◌, ℕ, List, Some, IfOk, IfSome, IsErrOf, OnErr, OnOk};
 ghost use Rattle.std.specs.Io.KnownBytes.{Appends};
 ghost use Rattle.std.specs.List.{list_all};
 ghost use Rattle.io_edge.specs.Counts.{Rose};
 ghost use Rattle.io_edge.specs.Transfers.{AppendsLess, AppendsPrefix};
 ghost use Rattle.workspace_json.specs.Commands.{exact_command};
-ghost use Rattle.hom_run.specs.Full.{Reads, Writes, is_good_answer, answered, answered_to, answering, is_blank as is_blank_lem, line, replay_run, replays};
+ghost use Rattle.workspace_json.specs.Forms.{HasForm};
+ghost use Rattle.workspace_json.specs.Replies.{text_of_reply};
+ghost use Rattle.workspace_json.specs.Sessions.{step};
+ghost use Rattle.hom_run.specs.Full.{Reads, Writes, is_good_answer, answered, answered_to, answering, is_blank as is_blank_lem, is_yes as is_yes_lem, line, replay_run, replays};
 ghost use Rattle.hom_run.specs.Taken.{AnswersWholeLines, StopsAtLine};
 
-use crate::status::Status;
+use crate::status::{Status, status_after};
 use crate::writing::{is_yes, write_line};
 use io_edge::{LineFault, LineReader, Sink, Source, WriteAllFault};
 use session_undo::Session;
 use std::alloc::{AllocError, Global};
-use workspace_json::{FormFault, form_text, read_command, reply_text};
+use workspace_json::{Command, FormFault, form_text, read_command, reply_text};
 
 /// Whether a line has no other bytes than spaces, tabs and carriage returns.
 fn is_blank(bytes: &[u8]) -> bool
@@ -21,6 +24,22 @@ fn is_blank(bytes: &[u8]) -> bool
     bytes
         .iter()
         .all(|byte| *byte == b' ' || *byte == b'\t' || *byte == b'\r')
+}
+
+/// Applies a command, and gives the text of its reply and whether this is a yes.
+fn reply_to(
+    alloc: Global,
+    session: &mut Session,
+    command: &Command,
+) -> Result<(Vec<u8>, bool), AllocError>
+    requires { HasForm command.now }
+    ensures session { OnOk result (session.new.session ≡ (step session.old.session command.now).session) }
+    ensures text { IfOk result (λ answer.
+        answer.0.items ≡ text_of_reply (step session.old.session command.now).reply) }
+    ensures good { IfOk result (λ answer. answer.1 ≡ is_yes_lem (step session.old.session command.now).reply) }
+{
+    let reply = session.apply(command)?;
+    Ok((reply_text(alloc, &reply)?, is_yes(&reply)))
 }
 
 /// The text that answers a line, and whether it is neither a form fault nor a reply that says no.
@@ -37,17 +56,13 @@ fn answer_to(
         ≡ list_all is_good_answer (answered_to session.old.session (exact_command bytes.now)).answers) }
 {
     match read_command(alloc, bytes) {
-        Ok(command) => {
-            let reply = session.apply(&command)?;
-            Ok((reply_text(alloc, &reply)?, is_yes(&reply)))
-        }
+        Ok(command) => reply_to(alloc, session, &command),
         Err(FormFault::NoMemory) => Err(AllocError),
         Err(fault) => Ok((form_text(alloc, &fault)?, false)),
     }
 }
 
 /// Writes the answer to a line, and says whether it is a good one. A blank line has none.
-#[tactic(auto, unfolding(crate::specs::Full::answered))]
 fn write_answer<K: Sink>(
     alloc: Global,
     session: &mut Session,
@@ -73,14 +88,6 @@ fn write_answer<K: Sink>(
     let (text, is_good) = answer_to(alloc, session, bytes)?;
     write_line(output, text)?;
     Ok(is_good)
-}
-
-/// The status of a session whose lines were all answered.
-fn status_after(good: bool) -> Status
-    ensures status { result ≡ (if good then Status.Done else Status.Refused) }
-    ensures others { (result ≢ Status.ReadFault) × (result ≢ Status.WriteFault) × (result ≢ Status.Usage) }
-{
-    if good { Status::Done } else { Status::Refused }
 }
 
 /// Answers each line of the input in its order, before it takes more of it than one read.

@@ -1,21 +1,25 @@
-ghost use Rattle.std.specs.Prelude.{◌≡◌, ◌≤◌, IfOk, IsErrOf, IsSome, Ok, OnErr, OnOk};
+ghost use Rattle.std.specs.Prelude.{◌≡◌, ◌≤◌, [], ◌∷◌, IfOk, IsErrOf, IsSome, Ok, OnErr, OnOk};
 ghost use Rattle.std.specs.Io.KnownBytes.{Appends};
 ghost use Rattle.io_edge.specs.Counts.{Rose};
 ghost use Rattle.io_edge.specs.Transfers.{AppendsPrefix};
-ghost use Rattle.node_json.specs.Documents.{IsDocument};
 ghost use Rattle.workspace_json.specs.Paths.{path_in};
+ghost use Rattle.diagram_terms.specs.Nodes.{tree_at};
+ghost use Rattle.diagram_terms.specs.Slices.{slice_along};
+ghost use Rattle.hashcons.specs.Contents.{IsDiagramOf, diagram_at};
+ghost use Rattle.node_json.specs.Documents.{IsDiagramPlace, IsDocument};
+ghost use Rattle.workspace_json.specs.Steps.{reply_of, slice_found};
 ghost use Rattle.hom_run.specs.Full.{root_of, slice_question, slice_reply as slice_reply_lem};
-ghost use Rattle.hom_run.specs.Modes.{question_run};
+ghost use Rattle.hom_run.specs.Modes.{question_replies, question_run};
 
-use crate::nodes::diagram_of;
-use crate::status::Status;
-use crate::writing::{is_yes, write_line};
+use crate::nodes::{diagram_in, put_document};
+use crate::status::{Status, status_after};
+use crate::writing::write_reply;
 use boundary_paths::{NoHeight, slice};
 use diagram_terms::{Height, Text};
-use hashcons::Store;
+use hashcons::{DiagramId, Store};
 use io_edge::{Sink, WriteAllFault};
 use std::alloc::{AllocError, Global};
-use workspace_json::{Document, Refusal, Reply, path_of, reply_text};
+use workspace_json::{Document, Refusal, Reply, path_of};
 use workspace_lists::printed;
 
 /// The place of the diagram of this name.
@@ -28,6 +32,36 @@ fn root_named(document: &Document, name: &str) -> Option<usize>
         .iter()
         .find(|entry| entry.name.as_str() == name)
         .map(|entry| entry.root)
+}
+
+/// What `slice` replies of a diagram of the store.
+fn slice_of(store: &Store, diagram: DiagramId, path: &[Height]) -> Result<Reply, AllocError>
+    requires { IsDiagramOf store.now diagram }
+    ensures { IfOk result (λ reply.
+        reply ≡ reply_of (slice_found (slice_along (diagram_at store.now diagram) path.now))) }
+{
+    match slice(store, diagram, path) {
+        Ok(found) => printed(store, found),
+        Err(NoHeight { step }) => Ok(Reply::Refused(Refusal::NoHeight { step })),
+    }
+}
+
+/// What `slice` replies of the diagram at a place of a document.
+fn slice_in(
+    alloc: Global,
+    document: &Document,
+    place: usize,
+    path: &[Height],
+) -> Result<Reply, AllocError>
+    requires document { IsDocument document.now }
+    requires place { IsDiagramPlace document.now.nodes place }
+    ensures { IfOk result (λ reply.
+        reply ≡ reply_of (slice_found (slice_along (tree_at document.now.nodes place) path.now))) }
+{
+    let mut store = Store::new(alloc);
+    let ids = put_document(&mut store, document)?;
+    let diagram = diagram_in(&ids, place);
+    slice_of(&store, diagram, path)
 }
 
 /// What `slice` replies to a document.
@@ -44,13 +78,25 @@ fn slice_reply(
         let name = Text::from_str(alloc, name)?;
         return Ok(Reply::Refused(Refusal::Unknown { name }));
     };
-    let mut store = Store::new(alloc);
-    let ids = store.put_nodes(document.nodes.as_slice())?;
-    let diagram = diagram_of(ids[root]);
-    match slice(&store, diagram, path) {
-        Ok(found) => printed(&store, found),
-        Err(NoHeight { step }) => Ok(Reply::Refused(Refusal::NoHeight { step })),
-    }
+    slice_in(alloc, document, root, path)
+}
+
+/// What `slice` replies to a document, along the path that this text is.
+fn reply_along(
+    alloc: Global,
+    document: &Document,
+    name: &str,
+    path: &str,
+) -> Result<Reply, AllocError>
+    requires form { IsSome (path_in path.now) }
+    requires document { IsDocument document.now }
+    ensures { IfOk result (λ reply.
+        question_replies (slice_question name.now path.now) document.now ≡ reply ∷ []) }
+{
+    let Some(heights) = path_of(alloc, path)? else {
+        unreachable!();
+    };
+    slice_reply(alloc, document, name, heights.as_slice())
 }
 
 /// Writes the line of the slice of the diagram of this name along the path that this text is.
@@ -73,14 +119,7 @@ pub(crate) fn write_slice<K: Sink>(
     ensures cause { IsErrOf result WriteAllFault.WriteFault
         → Rose (K.faults output.old) (K.faults output.new) }
 {
-    let Some(heights) = path_of(alloc, path)? else {
-        unreachable!();
-    };
-    let reply = slice_reply(alloc, document, name, heights.as_slice())?;
-    write_line(output, reply_text(alloc, &reply)?)?;
-    if is_yes(&reply) {
-        Ok(Status::Done)
-    } else {
-        Ok(Status::Refused)
-    }
+    let reply = reply_along(alloc, document, name, path)?;
+    let is_good = write_reply(alloc, &reply, output)?;
+    Ok(status_after(is_good))
 }

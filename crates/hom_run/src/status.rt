@@ -1,4 +1,4 @@
-ghost use Rattle.std.specs.Prelude.{◌≡◌};
+ghost use Rattle.std.specs.Prelude.{◌≡◌, ◌≢◌, if◌then◌else◌};
 ghost use Rattle.hom_run.specs.Status.{number_of};
 
 /// How a run ended.
@@ -38,4 +38,12 @@ impl Status {
             Status::TooLong => 7,
         }
     }
+}
+
+/// The status where all was answered, and whether each answer is a good one.
+pub(crate) fn status_after(good: bool) -> Status
+    ensures status { result ≡ (if good then Status.Done else Status.Refused) }
+    ensures others { (result ≢ Status.ReadFault) × (result ≢ Status.WriteFault) × (result ≢ Status.Usage) }
+{
+    if good { Status::Done } else { Status::Refused }
 }

@@ -2,13 +2,13 @@ ghost use Rattle.std.specs.Prelude.{◌≡◌, ◌≢◌, ◌≤◌, OnOk, OnErr
 ghost use Rattle.std.specs.Io.KnownBytes.{Appends};
 ghost use Rattle.io_edge.specs.Counts.{Rose};
 ghost use Rattle.io_edge.specs.Transfers.{AppendsLess, AppendsPrefix};
-ghost use Rattle.workspace_json.specs.Replies.{text_of_fault};
+ghost use Rattle.workspace_json.specs.Replies.{text_of_fault, text_of_reply};
 ghost use Rattle.hom_run.specs.Full.{is_yes as is_yes_lem, line};
 
 use crate::status::Status;
 use io_edge::{Sink, WriteAllFault, write_all};
 use std::alloc::Global;
-use workspace_json::{FormFault, Reply, form_text};
+use workspace_json::{FormFault, Reply, form_text, reply_text};
 
 /// Whether a reply is a yes: neither a `no` nor a refusal.
 pub(crate) fn is_yes(reply: &Reply) -> bool
@@ -43,6 +43,25 @@ pub(crate) fn write_line<K: Sink>(output: &mut K, text: Vec<u8>) -> Result<(), W
     let mut piece = text;
     piece.push(b'\n')?;
     write_all(output, &piece)
+}
+
+/// Writes the line of a reply, and says whether it is a yes.
+pub(crate) fn write_reply<K: Sink>(
+    alloc: Global,
+    reply: &Reply,
+    output: &mut K,
+) -> Result<bool, WriteAllFault>
+    ensures good { IfOk result (λ good. good ≡ is_yes_lem reply.now) }
+    ensures wrote { OnOk result
+        (Appends (K.written output.old) (K.written output.new) (line (text_of_reply reply.now))) }
+    ensures err { OnErr result
+        (AppendsPrefix (K.written output.old) (K.written output.new) (line (text_of_reply reply.now))) }
+    ensures later { K.faults output.old ≤ K.faults output.new }
+    ensures cause { IsErrOf result WriteAllFault.WriteFault
+        → Rose (K.faults output.old) (K.faults output.new) }
+{
+    write_line(output, reply_text(alloc, reply)?)?;
+    Ok(is_yes(reply))
 }
 
 /// Writes the line of a form fault.

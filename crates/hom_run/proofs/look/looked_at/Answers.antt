@@ -1,24 +1,24 @@
-use Rattle.std.proofs.Common.{◌≡◌, ◌∙◌, ap, List, ℕ, length, subst}
+use Rattle.std.proofs.Common.{◌≡◌, ◌≤◌, ◌∙◌, ap, subst, sym}
+use Rattle.diagram_terms.specs.declared.limits.TheConstants.{GREATEST_DIM}
+use Rattle.diagram_terms.specs.Dimension.{dimension_of}
 use Rattle.diagram_terms.specs.FaultsOnTrees.{diagram_fault}
-use Rattle.diagram_terms.specs.Shape.{IsDiagram}
-use Rattle.diagram_terms.specs.Tree.{Tree, sings}
+use Rattle.diagram_terms.specs.Tree.{Tree}
 use Rattle.hashcons.specs.Contents.{diagram_at}
-use Rattle.workspace_json.specs.declared.reply.Reply.TheVariants.{Look}
-use Rattle.hom_run.proofs.Looks.{looked}
+use Rattle.hom_run.specs.Full.{tree_reply}
 use Rattle.hom_run.proofs.look.looked_at.Goals as goal
 
-pub dim-requires : goal.dim-requires
-dim-requires c = record { of_store = c.in_ok-valid.ensures.grows.diagrams c.args.diagram c.requires.of_store }
+pub look_of-requires : goal.look_of-requires
+look_of-requires c =
+    let d = c.args.diagram in
+    let kept : diagram_at c.bad_place.new.store d ≡ diagram_at c.args.store.now d = c.in_ok-at.ensures.grows.diagram_trees d c.requires.of_store in
+    record {
+      of_store = c.in_ok-at.ensures.grows.diagrams d c.requires.of_store;
+      dim = subst (λ (t : Tree). dimension_of t ≤ GREATEST_DIM) (sym kept) c.requires.dim;
+      at = c.in_ok-at.ensures.exact ∙ ap diagram_fault (sym kept);
+    }
 
 pub returns-clause-reply : goal.returns-clause-reply
 returns-clause-reply c =
-    let old = c.args.store.now in
     let d = c.args.diagram in
-    let t = diagram_at old d in
-    let kept : diagram_at c.valid.new.store d ≡ t = c.in_ok-valid.ensures.grows.diagram_trees d c.requires.of_store in
-    let fault : c.place_of-at.result ≡ diagram_fault t = c.place_of-at.ensures ∙ c.in_ok-valid.ensures.exact in
-    let shape : IsDiagram c.dim.result t = subst (IsDiagram c.dim.result) kept c.dim.ensures.shape in
-    let len : c.length.result ≡ length (sings t) = c.length.ensures.length ∙ ap (λ (u : Tree). length (sings u)) kept in
-    let name_is : c.in_ok-name.name ≡ c.args.name.now = c.in_ok-name.ensures in
-    ap (λ (name : List ℕ). Look c.dim.result c.length.result name c.place_of-at.result) name_is
-    ∙ looked c.args.name.now t c.dim.result c.length.result c.place_of-at.result shape len fault
+    let kept : diagram_at c.bad_place.new.store d ≡ diagram_at c.args.store.now d = c.in_ok-at.ensures.grows.diagram_trees d c.requires.of_store in
+    c.look_of.ensures ∙ (λ i. tree_reply (c.in_ok-name.ensures i) (kept i))
