@@ -48,7 +48,7 @@ read_id ids place x within is = is ∙ get_or_default ids place x (id.Diagram 0)
 module _ (c : Contents) (ids : List AnyId) (document : Document) (held : HoldsDocument c ids document) (place : ℕ)
     (at : IsDiagramPlace document.nodes place) where
   pub tree_there : tree_of c (id_at ids place) ≡ tree_at document.nodes place
-  tree_there = held.ids.are place at.within
+  tree_there = held.gathered.are place at.within
 
   shape_there : IsDiagram at.dim (tree_of c (id_at ids place))
   shape_there = subst (IsDiagram at.dim) (sym tree_there) (diagram_at document.nodes held.form.nodes place at.dim at.within at.stands)
@@ -66,9 +66,9 @@ module _ (c : Contents) (ids : List AnyId) (document : Document) (held : HoldsDo
 
   pub diagram_there : IsDiagramAt c ids place
   diagram_there = record {
-    within = let l = held.ids.len in let w = at.within in omega arith;
-    kind = kind (id_at ids place) (held.ids.of_store place at.within) shape_there;
-    of_store = held.ids.of_store place at.within;
+    within = let l = held.gathered.len in let w = at.within in omega arith;
+    kind = kind (id_at ids place) (held.gathered.of_store place at.within) shape_there;
+    of_store = held.gathered.of_store place at.within;
     dim = dim_there;
   }
 
@@ -76,7 +76,7 @@ pub holds-grow : (old new : Contents) (ids : List AnyId) (document : Document) �
 holds-grow old new ids document grows held = record {
   form = held.form;
   store = grows.store held.store;
-  ids = ids-grow old new ids (length document.nodes) (tree_at document.nodes) grows held.ids;
+  gathered = ids-grow old new ids (length document.nodes) (tree_at document.nodes) grows held.gathered;
 }
 
 -- ---- the entry that a loop has come to

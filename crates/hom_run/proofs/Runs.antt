@@ -1,6 +1,6 @@
 -- What a run makes of its words and its input.
-use Rattle.std.proofs.Common.{◌≡◌, ℕ, ◌+◌, ◌<◌, ◌≤◌, List, [], append-nil, length, IfOk, OnErr, OnOk, Option, Result, Ok, Err, Some, None, IsSome, refl, sym, subst, ◌∙◌}
-use Rattle.std.specs.Prelude.{option_map}
+use Rattle.std.proofs.Common.{◌≡◌, ◌≢◌, ℕ, Bool, true, false, ◌+◌, ◌<◌, ◌≤◌, List, [], append-nil, length, IfOk, OnErr, OnOk, Option, Result, Ok, Err, Some, None, IsSome, refl, sym, subst, ◌∙◌}
+use Rattle.std.specs.Prelude.{if◌then◌else◌, option_map}
 use Rattle.std.proofs.lemmas.Bool.{false≢true, lt-ltb, le-ltb}
 use Rattle.std.specs.Io.KnownBytes.{Appends, Keeps}
 use Rattle.std.proofs.KnownBytes.{Appends-nil}
@@ -46,6 +46,15 @@ pub writes_result : (run : Run) (wrote : Result Status WriteAllFault) (s : Statu
 writes_result run (Ok t) s old new ok all cut is write memory = writes_whole run s old new (is ∙ ok) all
 writes_result run (Err stop.WriteFault) s old new ok all cut is write memory = subst (λ (t : Status). Writes run t old new) (sym (write refl)) cut
 writes_result run (Err stop.NoMemory) s old new ok all cut is write memory = subst (λ (t : Status). Writes run t old new) (sym (memory refl)) cut
+
+-- the status of answers that were written, or not
+pub not_stopped : (wrote : Result Status WriteAllFault) (good : Bool) (s : Status) → IfOk wrote (λ t. t ≡ (if good then status.Done else status.Refused))
+    → IfOk wrote (λ t. s ≡ t) → (wrote ≡ Err stop.WriteFault → s ≡ status.WriteFault) → (wrote ≡ Err stop.NoMemory → s ≡ status.NoMemory)
+    → (s ≢ status.ReadFault) × (s ≢ status.TooLong) × (s ≢ status.Usage)
+not_stopped (Ok t) true s ok is write memory = ((λ e. cc), (λ e. cc), λ e. cc)
+not_stopped (Ok t) false s ok is write memory = ((λ e. cc), (λ e. cc), λ e. cc)
+not_stopped (Err stop.WriteFault) good s ok is write memory = let at : s ≡ status.WriteFault = write refl in ((λ e. cc), (λ e. cc), λ e. cc)
+not_stopped (Err stop.NoMemory) good s ok is write memory = let at : s ≡ status.NoMemory = memory refl in ((λ e. cc), (λ e. cc), λ e. cc)
 
 -- ---- words
 

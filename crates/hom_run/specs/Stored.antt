@@ -16,7 +16,7 @@ use Rattle.hom_run.specs.Full.{tree_reply}
 pub record HoldsDocument (c : Contents) (ids : List AnyId) (document : Document) : Type 0 where
   pub form : IsDocument document
   pub store : IsStore c
-  pub ids : GathersIds c ids (length document.nodes) (tree_at document.nodes)
+  pub gathered : GathersIds c ids (length document.nodes) (tree_at document.nodes)
 
 -- the id at this place is that of a diagram of the store
 pub record IsDiagramAt (c : Contents) (ids : List AnyId) (place : ℕ) : Type 0 where

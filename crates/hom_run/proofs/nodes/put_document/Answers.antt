@@ -12,6 +12,6 @@ returns c =
     (λ ids of. record {
       form = c.requires.document;
       store = grown_is_store _ _ c.requires.nothing c.put_nodes.ensures.grows;
-      ids = subst (λ (ns : List Node). GathersIds c.put_nodes.new.self ids.items (length ns) (tree_at ns)) c.as_slice.ensures of;
+      gathered = subst (λ (ns : List Node). GathersIds c.put_nodes.new.self ids.items (length ns) (tree_at ns)) c.as_slice.ensures of;
     })
     c.put_nodes.ensures.ids
