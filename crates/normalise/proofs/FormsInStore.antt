@@ -1,20 +1,21 @@
 -- Legs, keys and normal forms in a store, while it grows.
 use Rattle.std.proofs.Common.{◌≡◌, ℕ, zero, suc, ◌<◌, ◌≤◌, ◌+◌, List, [], ◌∷◌, ◌++◌, length, map, get_or, Bool, true, false, nat_eq, Some, refl, sym, ap, subst, ◌∙◌, arith, inl, inr}
 use Rattle.std.specs.List.{Contains}
-use Rattle.std.proofs.lemmas.Bool.{cases_Bool, eq-eqb, ne_eqb}
-use Rattle.std.proofs.lemmas.List.{get_or-map, length-map, get_or_default}
+use Rattle.std.proofs.lemmas.Bool.{cases_Bool, cases_lt, eq-eqb, ne_eqb}
+use Rattle.std.proofs.lemmas.List.{get_or-map, length-map, get_or_default, get_or_append_left, get_or_push, length_push}
 use Rattle.diagram_terms.specs.Composite.{ident}
 use Rattle.diagram_terms.specs.Decoded.{dia, arr, arr_tree}
 use Rattle.diagram_terms.specs.Dimension.{dimension_of}
 use Rattle.diagram_terms.specs.Family.{Arr}
 use Rattle.diagram_terms.specs.Loose.{is_identity}
 use Rattle.diagram_terms.specs.Nodes.{picked}
-use Rattle.diagram_terms.specs.Operations.{identity_tree}
-use Rattle.diagram_terms.specs.Shape.{reg_at}
-use Rattle.diagram_terms.specs.Tree.{Tree, nil, sings}
+use Rattle.diagram_terms.specs.NormalForms.{normal_form}
+use Rattle.diagram_terms.specs.Operations.{identity_tree, composite_tree}
+use Rattle.diagram_terms.specs.Shape.{IsDiagram, reg_at, sing_at}
+use Rattle.diagram_terms.specs.Tree.{Tree, nil, regs, sings}
 use Rattle.diagram_terms.specs.ValidTrees.{IsValidTreeAt, IsValidTree, IsArrowBetween}
-use Rattle.diagram_terms.proofs.Dimensions.{diagram_dimension}
-use Rattle.diagram_terms.proofs.Glue.{arr-arr_tree, arr_tree-arr}
+use Rattle.diagram_terms.proofs.Dimensions.{diagram_dimension, diagram_of_dimension, length-regs}
+use Rattle.diagram_terms.proofs.Glue.{arr-arr_tree, arr_tree-arr, dia_tree-dia}
 use Rattle.diagram_terms.proofs.LooseTests.{is_identity_decides}
 use Rattle.diagram_terms.proofs.NotionsOnTrees.{on_diagram_at, on_arrow_at}
 use Rattle.diagram_terms.proofs.Shapes.{one_diagram_dimension}
@@ -32,16 +33,17 @@ use Rattle.zigzag_maps.specs.Found.{IsValidDiagram, IsValidMap}
 use Rattle.zigzag_maps.specs.MapTrees.{IsValidArrowAt, IsValidArrowTree}
 use Rattle.zigzag_maps.proofs.IdentitySlices.{identity_shape}
 use Rattle.zigzag_maps.proofs.KeptMaps.{valid_diagram-grows, valid_map-grows, between_same}
-use Rattle.zigzag_maps.proofs.ValidArrows.{valid_arrow, between_of}
+use Rattle.zigzag_maps.proofs.SliceMaps.{arrow_of_map}
+use Rattle.zigzag_maps.proofs.ValidArrows.{reg_tree, sing_tree, valid_arrow, between_of, valid_shape, valid_parts, target_dimension}
 use Rattle.degeneracy.specs.DegeneracyTrees.{IsDegeneracyTree, IsDegeneracyMap, IsFactorTree, IsFactorArrow}
 use Rattle.degeneracy.specs.FactorTrees.{factors_tree, factor_tree}
 use Rattle.degeneracy.proofs.FactorMaps.{some_factor}
 use Rattle.normalise.specs.LegSlices.{regular_slice_trees}
 use Rattle.normalise.specs.FormTrees.{normal_tree, reg_normal, identity_test, assembled_tree}
 use Rattle.normalise.specs.NormalMaps.{no_map, AreMapsInto, as_leg, key_for, IsReducedTree}
-use Rattle.normalise.specs.StoreForms.{legs_of, IsLegInto, AreLegsInto, AreLegsWith, IsKeyOf, IsKeyWith, IsArrowOut, leg_map_at, IsLegWith, IsArrowWith, AreFactorsOf}
+use Rattle.normalise.specs.StoreForms.{legs_of, IsLegInto, AreLegsInto, AreLegsWith, IsKeyOf, IsKeyWith, IsArrowOut, leg_map_at, IsLegWith, IsArrowWith, IsFactorOf, AreFactorsOf}
 use Rattle.normalise.proofs.SliceTrees.{LegsIn, map_same_in, in_at}
-use Rattle.normalise.proofs.LeastForms.{normal_arrow, normal_degeneracy, normal_noted, leg_factors, factor_is_arrow, factor_valid, noted_is, noted_factor, noted_reduced}
+use Rattle.normalise.proofs.LeastForms.{normal_tree_at, normal_arrow, normal_degeneracy, normal_noted, leg_factors, factor_is_arrow, factor_valid, noted_is, noted_factor, noted_reduced}
 use Rattle.normalise.proofs.FormParts.{normal_assembled, reg_arrow}
 
 -- ---- legs and keys while the store grows
@@ -194,8 +196,8 @@ module _ (c : Contents) (k : Key) (h : IsKeyOf c k) where
         → (g : Tree) × IsFactorArrow c (leg_map_at k i) (record { source = x.0; target = k.target; arrow = x.1 }) g
     form_factors i l =
         let n = length-map k.legs (leg_of c) in
-        let yes = leg_factors h.target.valid.dim t gs h.target.valid.at_dim are_legs i (omega arith) in
-        let there = subst (λ (g : TreeLeg). factors_tree g.arrow (tree_leg_at gs i).arrow ≡ true) (sym f.trees) yes in
+        let passed = leg_factors h.target.valid.dim t gs h.target.valid.at_dim are_legs i (omega arith) in
+        let there = subst (λ (g : TreeLeg). factors_tree g.arrow (tree_leg_at gs i).arrow ≡ true) (sym f.trees) passed in
         let here = subst (λ (g : TreeLeg). factors_tree (arrow_at c x.1) g.arrow ≡ true) (leg_tree_at c k.legs i l) there in
         (factor_tree (arrow_at c x.1) (arrow_at c (get_or k.legs i (0, 0)).1),
         some_factor c (leg_map_at k i) (record { source = x.0; target = k.target; arrow = x.1 }) (leg_map-valid c k i h l) refl form_degenerate here)
@@ -288,11 +290,11 @@ identity_means s t a vs vt b e =
 pub identity_told : (old new : Contents) (s a m : ℕ) → Grows old new → IsStore new → IsArrowOut old s a → IsArrowOf new m
     → arrow_at new m ≡ identity_tree (diagram_at old s) → nat_eq m a ≡ identity_test (arrow_at old a)
 identity_told old new s a m g store h l e = elim (cases_Bool (identity_test (arrow_at old a))) [
-  | inl yes ↦ (let is = identity_means _ _ _ h.source.valid h.target_valid h.between yes in
-      eq-eqb m a (store.arrows_once m a l (g.arrows a h.arrow) (e ∙ sym is ∙ sym (g.arrow_trees a h.arrow))) ∙ sym yes)
-  | inr no ↦ (ne_eqb m a (λ q. (let is : arrow_at old a ≡ identity_tree (diagram_at old s) = sym (g.arrow_trees a h.arrow) ∙ ap (arrow_at new) (sym q) ∙ e in
-      let yes = ap identity_test is ∙ identity_passes (diagram_at old s) h.source.valid in
-      absurd (cc))) ∙ sym no)
+  | inl p ↦ (let is = identity_means _ _ _ h.source.valid h.target_valid h.between p in
+      eq-eqb m a (store.arrows_once m a l (g.arrows a h.arrow) (e ∙ sym is ∙ sym (g.arrow_trees a h.arrow))) ∙ sym p)
+  | inr n ↦ (ne_eqb m a (λ q. (let is : arrow_at old a ≡ identity_tree (diagram_at old s) = sym (g.arrow_trees a h.arrow) ∙ ap (arrow_at new) (sym q) ∙ e in
+      let passed = ap identity_test is ∙ identity_passes (diagram_at old s) h.source.valid in
+      absurd (cc))) ∙ sym n)
 ]
 
 pub arrow_out-grows : (old new : Contents) (s a : ℕ) → Grows old new → IsArrowOut old s a → IsArrowOut new s a
@@ -339,4 +341,82 @@ module _ (c : Contents) (k : Key) (m : notes.Normal) (w : IsKeyOf c k) (h : IsNo
   pub answer_reduced : IsReducedTree (diagram_at c m.source) (legs_of c k.legs) (picked c.arrows m.factors)
   answer_reduced = noted_reduced _ _ _ _ _ h.normal
 
-pub ruleset forming = (Grows-refl, Grows-trans, store-kept, diagram-kept, arrow-kept, diagram_at-kept, arrow_at-kept, valid_map-grows, valid_diagram-grows, key-grows)
+reg_valid_at : (n : ℕ) (t : Tree) → IsValidTreeAt n t → 0 < n → (j : ℕ) → j ≤ length (sings t) → IsValidTree (reg_at t j)
+reg_valid_at zero t v l j k = absurd (omega arith)
+reg_valid_at (suc d) t v l j k = record { dim = d; at_dim = reg_tree d t v j k }
+
+sing_valid_at : (n : ℕ) (t : Tree) → IsValidTreeAt n t → 0 < n → (j : ℕ) → j < length (sings t) → IsValidTree (sing_at t j)
+sing_valid_at zero t v l j k = absurd (omega arith)
+sing_valid_at (suc d) t v l j k = record { dim = d; at_dim = sing_tree d t v j k }
+
+-- ---- parts of the target of a key, and its legs above dimension 0
+
+pub form_grows : (old new : Contents) (k : Key) → Grows old new → IsKeyOf old k → (x : ℕ × ℕ)
+    → IsLegWith old (normal_tree (diagram_at old k.target) (legs_of old k.legs)) x → IsLegWith new (normal_tree (diagram_at new k.target) (legs_of new k.legs)) x
+form_grows old new k g h x f = key_after old new k g h (λ t gs. IsLegWith new (normal_tree t gs) x) (leg_with-grows old new _ x g f)
+
+form_zero_at : (t : Tree) (gs : List TreeLeg) → IsDiagram zero t → normal_tree t gs ≡ record { source = t; arrow = identity_tree t }
+unfolding normal_form
+form_zero_at t gs h =
+    let p = dia_tree-dia zero t h in
+    let q = on_diagram_at (λ d x. arr_tree d (ident d x)) zero t h in
+    normal_tree_at zero t gs h ∙ (λ i. record { source = p i; arrow = sym q i })
+
+module _ (c : Contents) (k : Key) (h : IsKeyOf c k) where
+  pub form_zero : dimension_of (diagram_at c k.target) ≡ 0 → normal_tree (diagram_at c k.target) (legs_of c k.legs)
+      ≡ record { source = diagram_at c k.target; arrow = identity_tree (diagram_at c k.target) }
+  form_zero e = form_zero_at (diagram_at c k.target) (legs_of c k.legs) (diagram_of_dimension zero (diagram_at c k.target) (valid_shape (diagram_at c k.target) h.target.valid) e)
+
+  module _ (above : 0 < dimension_of (diagram_at c k.target)) where
+    pub regs_of_target : length (regs (diagram_at c k.target)) ≡ suc (length (sings (diagram_at c k.target)))
+    regs_of_target = length-regs (diagram_at c k.target) (valid_shape (diagram_at c k.target) h.target.valid) above
+
+    pub reg_valid : (r j : ℕ) → j ≤ length (sings (diagram_at c k.target)) → diagram_at c r ≡ reg_at (diagram_at c k.target) j → IsValidTree (diagram_at c r)
+    reg_valid r j l e = subst IsValidTree (sym e) (reg_valid_at h.target.valid.dim (diagram_at c k.target) h.target.valid.at_dim
+        (omega (arith, diagram_dimension h.target.valid.dim (diagram_at c k.target) h.target.valid.at_dim.shape)) j l)
+
+    pub sing_valid : (r j : ℕ) → j < length (sings (diagram_at c k.target)) → diagram_at c r ≡ sing_at (diagram_at c k.target) j → IsValidTree (diagram_at c r)
+    sing_valid r j l e = subst IsValidTree (sym e) (sing_valid_at h.target.valid.dim (diagram_at c k.target) h.target.valid.at_dim
+        (omega (arith, diagram_dimension h.target.valid.dim (diagram_at c k.target) h.target.valid.at_dim.shape)) j l)
+
+    module _ (i : ℕ) (l : i < length k.legs) where
+      pub leg_map-above : 0 < dimension_of (arrow_at c (leg_map_at k i).arrow)
+      leg_map-above = let e = target_dimension _ _ _ (leg_map-valid c k i h l).between in omega arith
+
+      pub leg_map-regs : length (regs (arrow_at c (leg_map_at k i).arrow)) ≡ suc (length (sings (diagram_at c k.target)))
+      leg_map-regs = (valid_parts _ _ _ (arrow_of_map c (leg_map_at k i) (leg_map-valid c k i h l)) leg_map-above).regs_len
+
+-- ---- factors while the store grows
+
+pub factor-grows : (old new : Contents) (f e : Map) (a : ℕ) → Grows old new → IsValidMap old f → IsValidMap old e → IsFactorOf old f e a → IsFactorOf new f e a
+factor-grows old new f e a g vf ve h =
+    let p = g.arrow_trees e.arrow ve.arrow in
+    let q = g.arrow_trees a h.of_store in
+    record {
+      of_store = g.arrows a h.of_store;
+      factor = record {
+        between = between_same _ _ _ _ _ _ (sym (g.diagram_trees f.source vf.source.of_store)) (sym (g.diagram_trees e.source ve.source.of_store)) (sym q) h.factor.between;
+        composite = (λ i. composite_tree (p i) (q i)) ∙ h.factor.composite ∙ sym (g.arrow_trees f.arrow vf.arrow);
+      };
+    }
+
+pub factors_none : (c : Contents) (k : Key) (x : ℕ × ℕ) → AreFactorsOf c k x 0 []
+factors_none c k x = record { count = refl; factors = λ i l. absurd (omega arith) }
+
+module _ (old new : Contents) (k : Key) (x : ℕ × ℕ) (n a : ℕ) (fs : List ℕ) (g : Grows old new) (h : IsKeyOf old k)
+    (ve : IsValidMap old (record { source = x.0; target = k.target; arrow = x.1 })) (l : n < length k.legs)
+    (all : AreFactorsOf old k x n fs) (one : IsFactorOf new (leg_map_at k n) (record { source = x.0; target = k.target; arrow = x.1 }) a) where
+  factor_there : (i : ℕ) → i < n + 1 → IsFactorOf new (leg_map_at k i) (record { source = x.0; target = k.target; arrow = x.1 }) (get_or (fs ++ a ∷ []) i 0)
+  factor_there i m = elim (cases_lt i n) [
+    | inl q ↦ (let len = all.count in
+        subst (λ (b : ℕ). IsFactorOf new (leg_map_at k i) (record { source = x.0; target = k.target; arrow = x.1 }) b) (sym (get_or_append_left fs (a ∷ []) 0 i (omega arith)))
+        (factor-grows old new (leg_map_at k i) (record { source = x.0; target = k.target; arrow = x.1 }) (get_or fs i 0) g (leg_map-valid old k i h (omega arith)) ve (all.factors i q)))
+    | inr q ↦ (let e : n ≡ i = omega arith in
+        subst (λ (j : ℕ). IsFactorOf new (leg_map_at k j) (record { source = x.0; target = k.target; arrow = x.1 }) (get_or (fs ++ a ∷ []) j 0)) e
+        (subst (λ (b : ℕ). IsFactorOf new (leg_map_at k n) (record { source = x.0; target = k.target; arrow = x.1 }) b) (sym (get_or_push fs a 0 n all.count)) one))
+  ]
+
+  pub factors_more : AreFactorsOf new k x (n + 1) (fs ++ a ∷ [])
+  factors_more = record { count = (let m = length_push fs a in let len = all.count in omega arith); factors = factor_there }
+
+pub ruleset forming = (Grows-refl, Grows-trans, store-kept, diagram-kept, arrow-kept, diagram_at-kept, arrow_at-kept, valid_map-grows, valid_diagram-grows, key-grows, arrow_out-grows)

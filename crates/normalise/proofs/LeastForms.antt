@@ -226,7 +226,7 @@ module _ (t : Tree) (gs : List TreeLeg) (s a : Tree) (fs : List Tree) (h : IsNor
 
   pub noted_reduced : maps.IsReducedTree s gs fs
   noted_reduced =
-      let of = λ (i : ℕ). record { source = dia d (tree_leg_at gs i).source; arrow = arr d (get_or fs i nil) } in
+      let of : ℕ → Leg d = λ i. record { source = dia d (tree_leg_at gs i).source; arrow = arr d (get_or fs i nil) } in
       let k = length-map gs (leg_in d) in
       let there : (i : ℕ) → i < length gs → leg_at d (maps.factor_legs d gs fs) i ≡ of i = λ i l. get-tab of (length gs) i (no_leg d) l in
       record {

@@ -1,5 +1,5 @@
 -- Loops that gather legs, forms and what is left.
-use Rattle.std.proofs.Common.{◌≡◌, ℕ, suc, ◌<◌, ◌≤◌, ◌+◌, List, [], ◌∷◌, ◌++◌, length, map, take, get_or, Bool, true, false, cond, nat_eq, refl, sym, ap, subst, ◌∙◌, arith, inl, inr}
+use Rattle.std.proofs.Common.{◌≡◌, ℕ, suc, ◌<◌, ◌≤◌, ◌+◌, List, [], ◌∷◌, ◌++◌, ◌⊎◌, length, map, take, get_or, Bool, true, false, cond, nat_eq, refl, sym, ap, subst, ◌∙◌, arith, inl, inr}
 use Rattle.std.specs.List.{Contains, filter, flat_map}
 use Rattle.std.proofs.lemmas.Bool.{cases_Bool}
 use Rattle.std.proofs.lemmas.List.{map-append, take_more, length_push, get_or_append_left, get_or_push, append-nil}
@@ -16,7 +16,7 @@ use Rattle.hashcons.specs.NormalTrees.{TreeLeg}
 use Rattle.hashcons.specs.Nodes.{AreArrowChildren, AreDiagramChildren}
 use Rattle.hashcons.proofs.Growth.{gathers-below, gathers-picked, gathers-diagrams_grow, gathers-arrows_grow}
 use Rattle.hashcons.proofs.TableTrees.{length-picked, AreBelow-more, picked-agree}
-use Rattle.normalise.specs.declared.forms.Forms.{Forms}
+use Rattle.normalise.specs.declared.parts.Forms.{Forms}
 use Rattle.normalise.specs.declared.left.Left.{Left}
 use Rattle.normalise.specs.declared.level.Level.{Level}
 use Rattle.normalise.specs.LegSlices.{reg_leg_tree, sing_leg_tree, regular_slice_trees, heights_to, slices_to, slice_trees_over}
@@ -32,10 +32,10 @@ upto_more n = sym (map_same (upto (n + 1))) ∙ map-range_with_len_more (λ i. i
     map_same [] = refl
     map_same (x ∷ xs) = ap (λ ys. x ∷ ys) (map_same xs)
 
-pub filter_one : {X : Type 0} (p : X → Bool) (xs : List X) (x : X) → filter p (xs ++ x ∷ []) ≡ added (p x) (filter p xs) x
-filter_one p xs x = filter-append p xs (x ∷ []) ∙ elim (cases_Bool (p x)) [
-  | inl yes ↦ ap (λ b. filter p xs ++ cond b (x ∷ []) []) yes ∙ sym (ap (λ b. added b (filter p xs) x) yes)
-  | inr no ↦ ap (λ b. filter p xs ++ cond b (x ∷ []) []) no ∙ append-nil (filter p xs) ∙ sym (ap (λ b. added b (filter p xs) x) no)
+pub filter_one : {X : Type 0} (f : X → Bool) (xs : List X) (x : X) → filter f (xs ++ x ∷ []) ≡ added (f x) (filter f xs) x
+filter_one f xs x = filter-append f xs (x ∷ []) ∙ elim (cases_Bool (f x)) [
+  | inl p ↦ ap (λ b. filter f xs ++ cond b (x ∷ []) []) p ∙ sym (ap (λ b. added b (filter f xs) x) p)
+  | inr q ↦ ap (λ b. filter f xs ++ cond b (x ∷ []) []) q ∙ append-nil (filter f xs) ∙ sym (ap (λ b. added b (filter f xs) x) q)
 ]
 
 pub map_added : {X Y : Type 0} (f : X → Y) (b : Bool) (xs : List X) (x : X) → map f (added b xs x) ≡ added b (map f xs) (f x)
@@ -65,6 +65,14 @@ legs_push c t gs xs x g h p e = record {
 
 pub legs_none : (c : Contents) (t : Tree) → AreLegsWith c t [] []
 legs_none c t = record { into = λ x n. absurd (in_none x n); trees = refl }
+
+-- and more legs
+pub legs_append : (c : Contents) (t : Tree) (gs hs : List TreeLeg) (xs ys : List (ℕ × ℕ)) → AreLegsWith c t gs xs → AreLegsWith c t hs ys
+    → AreLegsWith c t (gs ++ hs) (xs ++ ys)
+legs_append c t gs hs xs ys h k = record {
+  into = λ x m. elim (Contains-append_cases xs ys x m) [ inl p ↦ h.into x p | inr q ↦ k.into x q ];
+  trees = map-append (leg_of c) xs ys ∙ (λ i. h.trees i ++ k.trees i);
+}
 
 -- the trees of the first legs, and of one more
 pub taken_more : (c : Contents) (xs : List (ℕ × ℕ)) (i : ℕ) → i < length xs
@@ -98,8 +106,6 @@ picks-push ts ids us x u h l e = record {
   are = map-append (λ i. get_or ts i nil) ids (x ∷ []) ∙ (λ i. h.are i ++ e i ∷ []);
 }
   where
-    use Rattle.std.proofs.Common.{◌⊎◌}
-
     cases : (i : ℕ) → i < length (ids ++ x ∷ []) → (i < length ids) ⊎ (length ids ≡ i)
     cases i m = let n = length_push ids x in grind arith
 

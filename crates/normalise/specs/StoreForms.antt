@@ -10,7 +10,7 @@ use Rattle.hashcons.specs.Gathers.{Gathers}
 use Rattle.hashcons.specs.NormalTrees.{TreeLeg}
 use Rattle.zigzag_maps.specs.declared.map.Map.{Map}
 use Rattle.degeneracy.specs.DegeneracyTrees.{IsFactorArrow}
-use Rattle.normalise.specs.declared.forms.Forms.{Forms}
+use Rattle.normalise.specs.declared.parts.Forms.{Forms}
 use Rattle.normalise.specs.declared.left.Left.{Left}
 use Rattle.normalise.specs.declared.level.Level.{Level}
 use Rattle.normalise.specs.LegSlices.{slice_trees_over}

@@ -6,8 +6,8 @@ ghost use Rattle.hashcons.specs.NoteTables.{key_of};
 ghost use Rattle.normalise.specs.FormTrees.{normal_tree};
 ghost use Rattle.normalise.specs.StoreForms.{AreForms, IsKeyOf, IsLeftOf, MakesLeg, legs_of};
 
-use crate::forms::Forms;
 use crate::left::Left;
+use crate::parts::{Forms, form_at};
 use hashcons::{ArrowId, ArrowNode, DiagramId, DiagramNode, NormalKey, Store};
 use std::alloc::AllocError;
 
@@ -29,6 +29,7 @@ pub(crate) fn assembled(
     ensures { MakesLeg store.old store.new
         (normal_tree (diagram_at store.old key.now.target) (legs_of store.old key.now.legs.items)) result }
 {
+    let (reg, _) = form_at(&forms, last);
     let Left {
         heights,
         mut regs,
@@ -37,7 +38,7 @@ pub(crate) fn assembled(
         bwds,
         arrows,
     } = left;
-    regs.push(forms.sources[last])?;
+    regs.push(reg)?;
     let source = store.put_diagram(DiagramNode::Zig {
         regs,
         sings,

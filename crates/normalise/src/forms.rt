@@ -7,24 +7,17 @@ ghost use Rattle.normalise.specs.FormTrees.{normal_tree, reg_normal};
 ghost use Rattle.normalise.specs.StoreForms.{AreForms, IsKeyOf, IsLeftOf, IsLevelOf, MakesForms, MakesLeft, MakesLeg, MakesLevel, legs_of};
 
 use crate::assembly::assembled;
-use crate::factors::factors_of;
-use crate::keys::copy_of;
-use crate::known::known_form;
+use crate::factors::note_with_factors;
+use crate::known::{is_known, known_form};
 use crate::left::Left;
 use crate::level::{Level, level_of};
+use crate::parts::{Forms, form_at};
 use crate::slices::regular_key;
 use crate::ways::singular_key;
-use hashcons::{ArrowId, DiagramId, KnownNormal, NormalKey, Store};
+use hashcons::{ArrowId, DiagramId, NormalKey, Store};
 use smallvec::SmallVec;
 use std::alloc::{AllocError, Global};
 use zigzag_maps::identity;
-
-/// The normal forms of the regular slices of a diagram, in order.
-#[derive(Drop)]
-pub(crate) struct Forms {
-    pub(crate) sources: SmallVec<DiagramId, 4>,
-    pub(crate) arrows: SmallVec<ArrowId, 4>,
-}
 
 /// Notes the normal form for a key whose target has dimension `dim`, with the factors of the legs.
 /// Where it is noted, nothing changes.
@@ -42,17 +35,11 @@ pub(crate) fn note_form(
     ensures noted { OnOk result (IsSome (noted_normal store.new (key_of key.now))) }
     ensures known { IsSome (noted_normal store.old (key_of key.now)) → store.new ≡ store.old }
 {
-    if store.known_normal(key).is_some() {
+    if is_known(store, key) {
         return Ok(());
     }
-    let form = form_anew(alloc, store, dim, key)?;
-    let factors = factors_of(alloc, store, key, form)?;
-    let copy = copy_of(alloc, key)?;
-    store.note_normal(copy, KnownNormal {
-        source: form.0,
-        arrow: form.1,
-        factors,
-    })
+    let (source, arrow) = form_anew(alloc, store, dim, key)?;
+    note_with_factors(alloc, store, key, source, arrow)
 }
 
 /// The normal form for a key that is not noted: the normal forms of the regular slices, then those
@@ -169,7 +156,8 @@ fn kept_levels(
     let mut left = Left::new(alloc);
     for k in 0..store.length(key.target) {
         let here = singular_form(alloc, store, dim, key, forms, k, k + 1)?;
-        left.add(k, forms.sources[k], &here)?;
+        let (reg, _) = form_at(forms, k);
+        left.add(k, reg, &here)?;
     }
     Ok(left)
 }
@@ -198,6 +186,6 @@ fn singular_form(
 {
     let slice = singular_key(alloc, store, key, forms, k, next)?;
     note_form(alloc, store, dim - 1, &slice)?;
-    let others = slice.legs.len() - 2;
-    level_of(alloc, store, &slice, others)
+    let last = slice.legs.len() - 1;
+    level_of(alloc, store, &slice, last - 1, last)
 }

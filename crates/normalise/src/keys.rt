@@ -1,4 +1,4 @@
-ghost use Rattle.std.specs.Prelude.{◌≡◌, ◌<◌, IfOk, length, map};
+ghost use Rattle.std.specs.Prelude.{◌≡◌, ◌<◌, IfOk, get_or, length, map};
 ghost use Rattle.hashcons.specs.NoteTables.{key_of};
 ghost use Rattle.normalise.specs.NormalMaps.{as_leg, key_for};
 ghost use Rattle.normalise.specs.StoreForms.{leg_map_at};
@@ -46,4 +46,13 @@ pub(crate) fn leg_map(key: &NormalKey, i: usize) -> Map
         target: key.target,
         arrow,
     }
+}
+
+/// The source of the leg at `i` of a key.
+pub(crate) fn source_at(key: &NormalKey, i: usize) -> DiagramId
+    requires { i < length key.now.legs.items }
+    ensures { result ≡ (get_or key.now.legs.items i (0, 0)).0 }
+{
+    let (source, _) = key.legs[i];
+    source
 }

@@ -1,4 +1,4 @@
-ghost use Rattle.std.specs.Prelude.{◌≡◌, ◌+◌, ◌<◌, ◌≤◌, ℕ, IfOk, IsSome, get_or, length, nat_lt, not, ◌&&◌, ◌||◌};
+ghost use Rattle.std.specs.Prelude.{◌≡◌, ◌+◌, ◌<◌, ◌≤◌, ℕ, IfOk, IsSome, length, nat_lt, not, ◌&&◌, ◌||◌};
 ghost use Rattle.hashcons.specs.Contents.{Grows, IsStore, arrow_at, diagram_at, noted_normal};
 ghost use Rattle.hashcons.specs.NormalTrees.{tree_leg_at};
 ghost use Rattle.hashcons.specs.NoteTables.{key_of};
@@ -6,6 +6,7 @@ ghost use Rattle.degeneracy.specs.FactorTrees.{factor_tree};
 ghost use Rattle.normalise.specs.FormTrees.{identity_test, normal_tree};
 ghost use Rattle.normalise.specs.StoreForms.{IsArrowOut, IsKeyOf, IsLevelWith, legs_of};
 
+use crate::keys::source_at;
 use crate::known::{known_factor, known_form};
 use hashcons::{ArrowId, DiagramId, NormalKey, Store};
 use std::alloc::{AllocError, Global};
@@ -22,30 +23,35 @@ pub(crate) struct Level {
     pub(crate) kept: bool,
 }
 
-/// The level of a key that is noted, whose last two legs come from the neighbours. It is kept where
-/// there are others, or where one of the two legs between is no identity.
+/// The level of a key that is noted, whose legs at `n` and `last`, the last two, come from the
+/// neighbours. It is kept where there are others, or where one of the two legs between is no
+/// identity.
 pub(crate) fn level_of(
     alloc: Global,
     store: &mut Store,
     key: &NormalKey,
     n: usize,
+    last: usize,
 ) -> Result<Level, AllocError>
     requires noted { IsSome (noted_normal store.old (key_of key.now)) }
     requires key { IsKeyOf store.old (key_of key.now) }
-    requires len { length key.now.legs.items ≡ n + 2 }
+    requires last { last ≡ n + 1 }
+    requires len { length key.now.legs.items ≡ last + 1 }
     ensures grows { Grows store.old store.new }
     ensures level { IfOk result (IsLevelWith store.new
         (normal_tree (diagram_at store.old key.now.target) (legs_of store.old key.now.legs.items))
         (factor_tree (normal_tree (diagram_at store.old key.now.target) (legs_of store.old key.now.legs.items)).arrow
         (tree_leg_at (legs_of store.old key.now.legs.items) n).arrow)
         (factor_tree (normal_tree (diagram_at store.old key.now.target) (legs_of store.old key.now.legs.items)).arrow
-        (tree_leg_at (legs_of store.old key.now.legs.items) (n + 1)).arrow)
+        (tree_leg_at (legs_of store.old key.now.legs.items) last).arrow)
         (nat_lt 0 n)) }
 {
     let (source, arrow) = known_form(store, key);
     let fwd = known_factor(store, key, n);
-    let bwd = known_factor(store, key, n + 1);
-    let kept = is_kept(alloc, store, key, n, fwd, bwd)?;
+    let bwd = known_factor(store, key, last);
+    let before = source_at(key, n);
+    let behind = source_at(key, last);
+    let kept = is_kept(alloc, store, n, before, fwd, behind, bwd)?;
     Ok(Level {
         source,
         arrow,
@@ -55,28 +61,26 @@ pub(crate) fn level_of(
     })
 }
 
-/// Whether a slice is hit by other legs than the last two, or one of the factors of these is no
-/// identity.
+/// Whether there are others, or one of the two arrows is no identity.
+#[tactic(auto, using(crate::proofs::FormsInStore::forming))]
 fn is_kept(
     alloc: Global,
     store: &mut Store,
-    key: &NormalKey,
-    n: usize,
+    others: usize,
+    before: DiagramId,
     fwd: ArrowId,
+    behind: DiagramId,
     bwd: ArrowId,
 ) -> Result<bool, AllocError>
-    requires len { length key.now.legs.items ≡ n + 2 }
-    requires fwd { IsArrowOut store.old (get_or key.now.legs.items n (0, 0)).0 fwd }
-    requires bwd { IsArrowOut store.old (get_or key.now.legs.items (n + 1) (0, 0)).0 bwd }
+    requires fwd { IsArrowOut store.old before fwd }
+    requires bwd { IsArrowOut store.old behind bwd }
     requires store { IsStore store.old }
     ensures grows { Grows store.old store.new }
-    ensures kept { IfOk result (λ b. b ≡ (not (identity_test (arrow_at store.old fwd) && identity_test (arrow_at store.old bwd)) || nat_lt 0 n)) }
+    ensures kept { IfOk result (λ b. b ≡ (not (identity_test (arrow_at store.old fwd) && identity_test (arrow_at store.old bwd)) || nat_lt 0 others)) }
 {
-    if n > 0 {
+    if others > 0 {
         return Ok(true);
     }
-    let (before, _) = key.legs[n];
-    let (behind, _) = key.legs[n + 1];
     if !is_identity(alloc, store, before, fwd)? {
         return Ok(true);
     }
@@ -91,7 +95,8 @@ fn is_identity(
     source: DiagramId,
     arrow: ArrowId,
 ) -> Result<bool, AllocError>
-    requires { IsArrowOut store.old source arrow }
+    requires out { IsArrowOut store.old source arrow }
+    requires store { IsStore store.old }
     ensures grows { Grows store.old store.new }
     ensures exact { IfOk result (λ b. b ≡ identity_test (arrow_at store.old arrow)) }
 {

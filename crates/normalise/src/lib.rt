@@ -9,6 +9,7 @@ mod known;
 mod left;
 mod level;
 mod normal;
+mod parts;
 mod slices;
 mod ways;
 

@@ -1,13 +1,13 @@
-ghost use Rattle.std.specs.Prelude.{◌≡◌, ◌<◌, ◌≤◌, ◌++◌, IfOk, OnOk, get_or, length, nat_eq};
+ghost use Rattle.std.specs.Prelude.{◌≡◌, ◌<◌, ◌≤◌, IfOk, length};
 ghost use Rattle.diagram_terms.specs.Dimension.{dimension_of};
 ghost use Rattle.diagram_terms.specs.Shape.{reg_at, sing_at};
-ghost use Rattle.diagram_terms.specs.Tree.{heights, sings};
+ghost use Rattle.diagram_terms.specs.Tree.{sings};
 ghost use Rattle.hashcons.specs.Contents.{arrow_at, diagram_at, leg_of};
 ghost use Rattle.hashcons.specs.NoteTables.{key_of};
 ghost use Rattle.zigzag_maps.specs.Found.{IsValidMap};
-ghost use Rattle.normalise.specs.LegSlices.{regular_slice_trees, sing_leg_tree, slice_trees_over, slices_to};
+ghost use Rattle.normalise.specs.LegSlices.{regular_slice_trees, slice_trees_over, slices_to};
 ghost use Rattle.normalise.specs.NormalMaps.{as_leg};
-ghost use Rattle.normalise.specs.StoreForms.{AreLegsInto, AreLegsWith, IsKeyOf, IsKeyWith, added, legs_of};
+ghost use Rattle.normalise.specs.StoreForms.{AreLegsWith, IsKeyOf, IsKeyWith, legs_of};
 
 use crate::keys::leg_map;
 use hashcons::{ArrowId, DiagramId, NormalKey, Store};
@@ -44,57 +44,39 @@ pub(crate) fn slices_over(
     store: &Store,
     key: &NormalKey,
     k: usize,
-) -> Result<SmallVec<(DiagramId, ArrowId), 4>, AllocError>
+) -> Result<Vec<(DiagramId, ArrowId)>, AllocError>
     requires key { IsKeyOf store.now (key_of key.now) }
     requires above { 0 < dimension_of (diagram_at store.now key.now.target) }
     ensures { IfOk result (λ xs. AreLegsWith store.now (sing_at (diagram_at store.now key.now.target) k)
         (slice_trees_over (legs_of store.now key.now.legs.items) k) xs.items) }
 {
-    let mut slices = SmallVec::new(alloc);
+    let mut slices = Vec::new(alloc);
     for i in 0..key.legs.len() {
-        push_slices(store, leg_map(key, i), k, &mut slices)?;
+        let leg = leg_map(key, i);
+        let found = slices_of(alloc, store, leg, k)?;
+        slices.extend_from_slice(found.as_slice())?;
     }
     Ok(slices)
 }
 
-/// The slices of a leg at its heights that go to `k`, after those that stand there.
-fn push_slices(
+/// The slices of a leg at its heights that go to `k`.
+fn slices_of(
+    alloc: Global,
     store: &Store,
     leg: Map,
     k: usize,
-    slices: &mut SmallVec<(DiagramId, ArrowId), 4>,
-) -> Result<(), AllocError>
+) -> Result<SmallVec<(DiagramId, ArrowId), 4>, AllocError>
     requires valid { IsValidMap store.now leg }
     requires above { 0 < dimension_of (arrow_at store.now leg.arrow) }
-    requires slices { AreLegsInto store.now (sing_at (diagram_at store.now leg.target) k) slices.old.items }
-    ensures { OnOk result (AreLegsWith store.now (sing_at (diagram_at store.now leg.target) k)
-        (legs_of store.now slices.old.items ++ slices_to k (leg_of store.now (as_leg leg))) slices.new.items) }
+    ensures { IfOk result (λ xs. AreLegsWith store.now (sing_at (diagram_at store.now leg.target) k)
+        (slices_to k (leg_of store.now (as_leg leg))) xs.items) }
 {
+    let mut slices = SmallVec::new(alloc);
     for i in 0..store.source_len(leg.arrow) {
-        push_slice(store, leg, k, i, slices)?;
+        if store.height(leg.arrow, i) == k {
+            let slice = sing_slice(store, leg, i);
+            slices.push((slice.source, slice.arrow))?;
+        }
     }
-    Ok(())
-}
-
-/// The slice of a leg at its height `i`, where that goes to `k`.
-fn push_slice(
-    store: &Store,
-    leg: Map,
-    k: usize,
-    i: usize,
-    slices: &mut SmallVec<(DiagramId, ArrowId), 4>,
-) -> Result<(), AllocError>
-    requires valid { IsValidMap store.now leg }
-    requires above { 0 < dimension_of (arrow_at store.now leg.arrow) }
-    requires within { i < length (heights (arrow_at store.now leg.arrow)) }
-    requires slices { AreLegsInto store.now (sing_at (diagram_at store.now leg.target) k) slices.old.items }
-    ensures { OnOk result (AreLegsWith store.now (sing_at (diagram_at store.now leg.target) k)
-        (added (nat_eq (get_or (heights (arrow_at store.now leg.arrow)) i 0) k) (legs_of store.now slices.old.items)
-        (sing_leg_tree (leg_of store.now (as_leg leg)) i)) slices.new.items) }
-{
-    if store.height(leg.arrow, i) == k {
-        let slice = sing_slice(store, leg, i);
-        slices.push((slice.source, slice.arrow))?;
-    }
-    Ok(())
+    Ok(slices)
 }

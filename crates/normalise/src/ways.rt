@@ -8,9 +8,10 @@ ghost use Rattle.zigzag_maps.specs.Found.{IsValidMap};
 ghost use Rattle.normalise.specs.FormTrees.{way_tree, way_trees};
 ghost use Rattle.normalise.specs.StoreForms.{AreForms, IsKeyOf, IsKeyWith, IsLegInto, IsLegWith, legs_of};
 
-use crate::forms::Forms;
+use crate::parts::{Forms, form_at};
 use crate::slices::slices_over;
 use hashcons::{ArrowId, DiagramId, NormalKey, Store};
+use smallvec::SmallVec;
 use std::alloc::{AllocError, Global};
 use zigzag_maps::{Map, bwd_map, compose, fwd_map};
 
@@ -38,11 +39,14 @@ pub(crate) fn singular_key(
     let target = store.sing(key.target, k);
     let fwd = fwd_map(store, key.target, k);
     let bwd = bwd_map(store, key.target, k);
-    let mut legs = slices_over(alloc, store, key, k)?;
-    let before = way(alloc, store, fwd, forms.sources[k], forms.arrows[k])?;
-    let behind = way(alloc, store, bwd, forms.sources[next], forms.arrows[next])?;
-    legs.push(before)?;
-    legs.push(behind)?;
+    let mut ways = slices_over(alloc, store, key, k)?;
+    let (source, arrow) = form_at(forms, k);
+    let before = way(alloc, store, fwd, source, arrow)?;
+    let (last, last_arrow) = form_at(forms, next);
+    let behind = way(alloc, store, bwd, last, last_arrow)?;
+    ways.push(before)?;
+    ways.push(behind)?;
+    let legs = SmallVec::from_slice(alloc, ways.as_slice())?;
     Ok(NormalKey { target, legs })
 }
 

@@ -6,5 +6,5 @@ use Rattle.normalise.proofs.factors.factors_of.Given as goal
 abbrev pub invariant-loop-i : goal.invariant-loop-i
 invariant-loop-i l = record {
   grows : Grows l.fn.store l.store;
-  factors : AreFactorsOf l.store (key_of l.key) l.form l.i l.factors.items;
+  factors : AreFactorsOf l.store (key_of l.key) (l.fn.source, l.fn.arrow) l.i l.factors.items;
 }
