@@ -20,7 +20,7 @@ use Rattle.node_json.specs.declared.fault.FormFault.{FormFault}
 use Rattle.workspace_json.specs.declared.reply.Reply.{Reply}
 use Rattle.workspace_json.specs.declared.refusal.Refusal.TheVariants.{Unknown}
 use Rattle.workspace_json.specs.declared.command.Command.{Command}
-use Rattle.workspace_json.specs.declared.reply.Reply.TheVariants.{Look, Refused, Generator, Stored, Named, Slice, Equal, Stats, Save, Undo, Redo}
+use Rattle.workspace_json.specs.declared.reply.Reply.TheVariants.{Look, Refused, Generator, Stored, Named, Slice, Normalise, Equal, Stats, Save, Undo, Redo}
 use Rattle.workspace_json.specs.Commands.{exact_command}
 use Rattle.workspace_json.specs.Paths.{path_in}
 use Rattle.node_json.specs.Reading.{exact_document}
@@ -75,6 +75,7 @@ is_yes (Generator dim name number) = true
 is_yes (Stored dim length name word) = true
 is_yes (Named name word) = true
 is_yes (Slice nodes root) = true
+is_yes (Normalise arrow factors name nodes source) = true
 is_yes (Equal value) = true
 is_yes (Stats arrows diagrams generators maps named) = true
 is_yes (Save document) = true

@@ -21,6 +21,7 @@ pub(crate) fn is_yes(reply: &Reply) -> bool
         | Reply::Stored { .. }
         | Reply::Named { .. }
         | Reply::Slice { .. }
+        | Reply::Normalise { .. }
         | Reply::Equal { .. }
         | Reply::Stats { .. }
         | Reply::Save { .. }
