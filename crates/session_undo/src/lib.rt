@@ -7,6 +7,7 @@ mod dropping;
 mod generators;
 mod lookups;
 mod maps;
+mod normal_forms;
 mod reading;
 mod session;
 mod stop;

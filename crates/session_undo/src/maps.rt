@@ -170,7 +170,7 @@ pub(crate) fn compose_command(
 }
 
 /// The stored map of a name.
-fn find_map(state: &State, name: &Text) -> Result<Map, Stop>
+pub(crate) fn find_map(state: &State, name: &Text) -> Result<Map, Stop>
     requires { IsState state.now }
     ensures answer { Answers (map_called state.now.store name.now) (known_map (present_of state.now) name.now) result }
     ensures valid { IfOk result (IsValidMap state.now.store) }
