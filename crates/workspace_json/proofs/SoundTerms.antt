@@ -256,5 +256,5 @@ pub reference_is_sound : (W : Workspace) → IsWorkspace W → (text : List ℕ)
 reference_is_sound W h text t e =
     first_sound (term W text) (end_named W.maps text) t e
     (λ f. first_sound (type_named 0 W.generators text) (diagram_named W.diagrams text) t f
-    (type_sound 0 W.generators text t h.few (sound_types W h)) (diagram_sound W.diagrams text t (sound_diagrams W h)))
+    (type_sound 0 W.generators text t (let f = h.few in omega arith) (sound_types W h)) (diagram_sound W.diagrams text t (sound_diagrams W h)))
     (end_sound W.maps text t h.valid)
