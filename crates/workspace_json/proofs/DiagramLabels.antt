@@ -1,13 +1,13 @@
 -- Labels within the limits: in the trees of valid diagrams, and of arrows between them.
-use Rattle.std.proofs.Common.{◌≡◌, ℕ, zero, suc, ◌<◌, ◌≤◌, inl, inr, List, [], ◌∷◌, ◌++◌, length, get_or, All, refl, sym, ap, subst, ◌∙◌, arith}
+use Rattle.std.proofs.Common.{ℕ, zero, suc, ◌<◌, ◌≤◌, inl, inr, [], ◌++◌, length, get_or, All, refl, sym, ap, subst, ◌∙◌, arith}
 use Rattle.std.proofs.lemmas.List.Elements.{All-append, All-cons, All-from_get_or, All-get_or, All-head, All-nil}
 use Rattle.diagram_terms.specs.declared.label.Label.{Label}
 use Rattle.diagram_terms.specs.Completion.{children}
-use Rattle.diagram_terms.specs.Decoded.{dia, arr}
+use Rattle.diagram_terms.specs.Decoded.{dia}
 use Rattle.diagram_terms.specs.Dual.{dual}
 use Rattle.diagram_terms.specs.Family.{Arr, Dia, arrow_reg, arrow_sing, bwd, fwd, height, no_arr, reg, sing}
 use Rattle.diagram_terms.specs.LabelsOf.{HasLabel}
-use Rattle.diagram_terms.specs.Shape.{IsArrow, IsDiagram, reg_at, sing_at}
+use Rattle.diagram_terms.specs.Shape.{IsDiagram, reg_at, sing_at}
 use Rattle.diagram_terms.specs.Tree.{Tree, nil, regs, sings, fwds, bwds, label_at}
 use Rattle.diagram_terms.specs.Valid.{Valid, ValidArrow}
 use Rattle.diagram_terms.proofs.Completions.{children-point, children-zig, diagram_completions}

@@ -1,24 +1,23 @@
 -- The map from a normal form meets the rule.
-use Rattle.std.proofs.Common.{◌≡◌, ℕ, ◌<◌, ◌≤◌, List, [], ◌∷◌, length, get_or, All, Bool, true, false, Option, Some, None, Ok, Err, refl, sym, ap, subst, ◌∙◌, arith}
-use Rattle.std.specs.Prelude.{◌&&◌, Result}
+use Rattle.std.proofs.Common.{◌≡◌, ℕ, ◌<◌, ◌≤◌, List, [], ◌∷◌, length, get_or, All, true, Option, Some, None, Ok, sym, subst, ◌∙◌, arith}
+use Rattle.std.specs.Prelude.{Result}
 use Rattle.std.specs.List.{list_all}
 use Rattle.std.proofs.lemmas.Bool.{and_parts}
 use Rattle.std.proofs.lemmas.List.{get_or-map, length-map}
-use Rattle.std.proofs.lemmas.List.Elements.{All-cons, All-get_or, All-head, All-nil, All-tail}
+use Rattle.std.proofs.lemmas.List.Elements.{All-cons, All-get_or, All-nil}
 use Rattle.diagram_terms.specs.declared.limits.TheConstants.{GREATEST_DIM}
-use Rattle.diagram_terms.specs.declared.label.Label.{Label}
 use Rattle.diagram_terms.specs.declared.place.Keep.TheVariants as keep
 use Rattle.diagram_terms.specs.Completion.{same_tree}
 use Rattle.diagram_terms.specs.Decoded.{arr, arr_tree, dia, dia_tree}
 use Rattle.diagram_terms.specs.Degeneracy.{Degeneracy}
 use Rattle.diagram_terms.specs.Dimension.{dimension_of}
-use Rattle.diagram_terms.specs.Family.{Arr, Dia, no_arr, no_dia}
-use Rattle.diagram_terms.specs.Least.{Leg, ValidLeg, ValidLegs, leg_at}
+use Rattle.diagram_terms.specs.Family.{Dia, no_arr, no_dia}
+use Rattle.diagram_terms.specs.Least.{Leg, ValidLeg, ValidLegs}
 use Rattle.diagram_terms.specs.NormalForms.{normal_form}
 use Rattle.diagram_terms.specs.Shape.{IsArrow, IsDiagram}
 use Rattle.diagram_terms.specs.Tree.{Tree, nil}
 use Rattle.diagram_terms.specs.Valid.{Valid, ValidArrow}
-use Rattle.diagram_terms.specs.ValidTrees.{IsArrowBetween, IsArrowBetweenAt, IsValidTree}
+use Rattle.diagram_terms.specs.ValidTrees.{IsArrowBetween, IsArrowBetweenAt}
 use Rattle.diagram_terms.proofs.Completions.{same_tree_decides}
 use Rattle.diagram_terms.proofs.Dimensions.{arrow_dimension, diagram_dimension}
 use Rattle.diagram_terms.proofs.FamilyShapes.{arrow_shape, diagram_shape, valid_arrow_fits, valid_fits}
@@ -29,10 +28,10 @@ use Rattle.normal_form_laws.proofs.KeptLabels.{degeneracies_keep_labels}
 use Rattle.workspace_json.specs.declared.refusal.Refusal.{Refusal}
 use Rattle.workspace_json.specs.declared.refusal.Refusal.TheVariants as refusal
 use Rattle.workspace_json.specs.ChangeLaws.{NormalFormsKeepRule}
-use Rattle.workspace_json.specs.Maps.{HasLabelsWithinLimits, IsMap, NamedMap}
+use Rattle.workspace_json.specs.Maps.{IsMap, NamedMap}
 use Rattle.workspace_json.specs.MapSteps.{known_map}
 use Rattle.workspace_json.specs.NormalSteps.{are_into, known_maps, map_leg, map_legs, normal_map, normal_trees, normalise_change, with_normal}
-use Rattle.workspace_json.specs.Steps.{◌>>=◌, Changed, new_name, or_refuse, referred, refuse_unless}
+use Rattle.workspace_json.specs.Steps.{Changed, new_name, or_refuse, referred}
 use Rattle.workspace_json.specs.Workspaces.{IsWorkspace, Workspace, reference}
 use Rattle.workspace_json.proofs.DiagramLabels.{DiagramWithin, arrow_within, its_diagram}
 use Rattle.workspace_json.proofs.KeptRules.{added_maps_keep_rule}

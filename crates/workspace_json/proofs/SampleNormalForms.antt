@@ -6,7 +6,6 @@ use Rattle.diagram_terms.specs.declared.node.Node.{Node}
 use Rattle.diagram_terms.specs.declared.node.Node.TheVariants as node
 use Rattle.diagram_terms.specs.Factors.{factor_through}
 use Rattle.diagram_terms.specs.NormalForms.{normal_form}
-use Rattle.workspace_json.specs.declared.command.Command.{Command}
 use Rattle.workspace_json.specs.declared.command.Command.TheVariants as command
 use Rattle.workspace_json.specs.declared.refusal.Refusal.TheVariants as refusal
 use Rattle.workspace_json.specs.declared.reply.Reply.TheVariants as reply

@@ -1,5 +1,5 @@
 -- What a reference names is a valid diagram within the limits.
-use Rattle.std.proofs.Common.{◌≡◌, ℕ, zero, suc, ◌+◌, ◌<◌, ◌≤◌, inl, inr, List, [], ◌∷◌, ◌++◌, length, get_or, take, cond, codes, All, Bool, true, false, Option, Some, None, Ok, slice_get, refl, sym, ap, subst, ◌∙◌, arith}
+use Rattle.std.proofs.Common.{◌≡◌, ℕ, zero, suc, ◌+◌, ◌<◌, ◌≤◌, inl, inr, List, [], ◌∷◌, ◌++◌, length, get_or, take, cond, codes, All, Bool, true, false, Option, Some, None, refl, sym, ap, subst, ◌∙◌, arith}
 use Rattle.std.specs.Prelude.{bytes_eq}
 use Rattle.std.proofs.lemmas.Bool.{eqb-true, leb-true}
 use Rattle.std.proofs.lemmas.List.{get_or-map, length-map}
@@ -7,13 +7,12 @@ use Rattle.std.proofs.lemmas.List.Elements.{All-contains, All-from_get_or, All-g
 use Rattle.std.proofs.lemmas.Option.{slice_get_cases}
 use Rattle.diagram_terms.specs.declared.label.Label.{Label}
 use Rattle.diagram_terms.specs.declared.limits.TheConstants.{GREATEST_DIM, MAX_GENERATORS}
-use Rattle.diagram_terms.specs.Cone.{HasLabelsBelow, Parallel, cone, mid, source, target, type_over}
+use Rattle.diagram_terms.specs.Cone.{HasLabelsBelow, Parallel, mid, source, target, type_over}
 use Rattle.diagram_terms.specs.ConeTrees.{type_tree}
 use Rattle.diagram_terms.specs.Decoded.{dia, dia_tree}
 use Rattle.diagram_terms.specs.Dimension.{dimension_of}
-use Rattle.diagram_terms.specs.Family.{Dia, reg, sing}
+use Rattle.diagram_terms.specs.Family.{Dia, reg}
 use Rattle.diagram_terms.specs.GeneratorTypes.{label_of, type_of_generator}
-use Rattle.diagram_terms.specs.LabelsOf.{HasLabel}
 use Rattle.diagram_terms.specs.OnTrees.{on_diagram}
 use Rattle.diagram_terms.specs.Plain.{Plain}
 use Rattle.diagram_terms.specs.Points.{Point, points}
@@ -27,7 +26,6 @@ use Rattle.diagram_terms.proofs.Dimensions.{arrow_dimension, diagram_dimension}
 use Rattle.diagram_terms.proofs.FamilyShapes.{diagram_shape, valid_fits}
 use Rattle.diagram_terms.proofs.Glue.{dia-dia_tree, dia-reg, dia-sings_len}
 use Rattle.diagram_terms.proofs.NodeTests.{is_within_limits-true}
-use Rattle.diagram_terms.proofs.Shapes.{IsDiagram-point}
 use Rattle.plain_laws.proofs.Cones.{types_are_good}
 use Rattle.normal_form_laws.proofs.PointLabels.{labels_are_below, points_have_the_labels}
 use Rattle.workspace_json.specs.Maps.{HasLabelsWithinLimits, IsMap, NamedMap}
