@@ -366,6 +366,18 @@ fn refuses_commands(rt: HostRuntime) -> Result<(), Fail> {
             "{\"do\":\"generator\",\"name\":\"f\",\"target\":\"x\"}",
             field(Field::Command),
         ),
+    ] {
+        let fault = read_command(alloc, line.as_bytes()).err();
+        assert_eq!(rt; fault, want, "{line}");
+    }
+    Ok(())
+}
+
+#[test]
+fn refuses_parts_of_commands(rt: HostRuntime) -> Result<(), Fail> {
+    let alloc = rt.alloc();
+    let field = |field: Field| Some(FormFault::Form { field, entry: None });
+    for (line, want) in [
         ("{\"do\":\"drop\",\"name\":1}", field(Field::Name)),
         (
             "{\"do\":\"generator\",\"name\":\"f\",\"source\":1,\"target\":2}",
