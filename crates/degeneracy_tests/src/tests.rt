@@ -1,3 +1,4 @@
+use crate::normals::{is_kept_whole, is_normal_form, is_own_form, stays_the_same};
 use crate::stored::{factor_of, has_parts, has_unit_factor, map_of, maps_of};
 use degeneracy::is_degeneracy;
 use hashcons::Store;
@@ -86,5 +87,15 @@ fn simple_parts_come_first(rt: HostRuntime) -> Result<(), Fail> {
     for (places, is_simple) in [(SECOND, true), (ABOVE, false)] {
         assert!(rt; over_new_store(rt.alloc(), |store| has_parts_at(store, places, is_simple))?);
     }
+    Ok(())
+}
+
+#[test]
+fn normal_forms_are_least(rt: HostRuntime) -> Result<(), Fail> {
+    let alloc = rt.alloc();
+    assert!(rt; over_new_store(alloc, |store| is_normal_form(store, NODES, SECOND))?);
+    assert!(rt; over_new_store(alloc, |store| is_kept_whole(store, NODES, FIRST))?);
+    assert!(rt; over_new_store(alloc, |store| is_own_form(store, NODES, FIRST))?);
+    assert!(rt; over_new_store(alloc, |store| stays_the_same(store, NODES, FIRST))?);
     Ok(())
 }

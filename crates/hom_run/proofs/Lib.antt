@@ -1,5 +1,6 @@
 mod Answerings
 mod Looks
+mod NormalReplies
 mod Lines
 mod Replays
 mod Runs

@@ -6,27 +6,34 @@ use Rattle.io_edge.specs.declared.limits.TheConstants.{INPUT_LIMIT}
 use Rattle.io_edge.specs.Lines.{Lines, lines_of}
 use Rattle.io_edge.specs.Transfers.{AppendsPrefix}
 use Rattle.diagram_terms.specs.declared.node.Node.{Node}
+use Rattle.diagram_terms.specs.declared.place.Fault.TheVariants as fault
 use Rattle.diagram_terms.specs.declared.place.Height.{Height}
 use Rattle.diagram_terms.specs.Family.{Dia, length_of}
 use Rattle.diagram_terms.specs.Decoded.{dia}
 use Rattle.diagram_terms.specs.Tree.{Tree}
 use Rattle.diagram_terms.specs.Dimension.{dimension_of}
+use Rattle.diagram_terms.specs.FaultsOnTrees.{diagram_fault}
 use Rattle.diagram_terms.specs.Nodes.{tree_at}
 use Rattle.diagram_terms.specs.Places.{first_bad_place}
 use Rattle.diagram_terms.specs.Slices.{slice_along}
+use Rattle.diagram_terms.specs.Typing.{first_of}
 use Rattle.node_json.specs.declared.document.DiagramEntry.{DiagramEntry}
 use Rattle.node_json.specs.declared.document.Document.{Document}
+use Rattle.node_json.specs.declared.document.MapEntry.{MapEntry}
 use Rattle.node_json.specs.declared.fault.FormFault.{FormFault}
 use Rattle.workspace_json.specs.declared.reply.Reply.{Reply}
 use Rattle.workspace_json.specs.declared.refusal.Refusal.TheVariants.{Unknown}
 use Rattle.workspace_json.specs.declared.command.Command.{Command}
-use Rattle.workspace_json.specs.declared.reply.Reply.TheVariants.{Look, Refused, Generator, Stored, Named, Slice, Equal, Stats, Save, Undo, Redo}
+use Rattle.workspace_json.specs.declared.reply.Reply.TheVariants.{Look, Refused, Generator, Stored, Named, Slice, Normalise, Equal, Stats, Save, Undo, Redo}
 use Rattle.workspace_json.specs.Commands.{exact_command}
+use Rattle.workspace_json.specs.Maps.{NamedMap, map_fault}
+use Rattle.workspace_json.specs.MapSteps.{map_at}
+use Rattle.workspace_json.specs.NormalSteps.{normal_reply, normal_trees}
 use Rattle.workspace_json.specs.Paths.{path_in}
 use Rattle.node_json.specs.Reading.{exact_document}
 use Rattle.workspace_json.specs.Replies.{text_of_reply, text_of_fault}
 use Rattle.workspace_json.specs.Sessions.{Session, new_session, step}
-use Rattle.workspace_json.specs.Steps.{◌>>=◌, or_refuse, reply_of, slice_found}
+use Rattle.workspace_json.specs.Steps.{◌>>=◌, no_fault, or_refuse, reply_of, slice_found}
 use Rattle.hom_run.specs.declared.status.Status.{Status}
 use Rattle.hom_run.specs.declared.status.Status.TheVariants as status
 
@@ -38,10 +45,12 @@ pub record Run : Type 0 where
 abbrev pub line : List ℕ → List ℕ
 line text = text ++ 10 ∷ []
 
--- what may be asked of a document: to look at each of its diagrams, or to give the slice of one of them
+-- what may be asked of a document: to look at each of its diagrams, or to give the slice of one of them, or the normal form of
+-- a diagram or of the target of a map
 pub data Question : Type 0 where
   looks : Question
   slices : List ℕ → List Height → Question
+  normalises : List ℕ → Question
 
 -- what a run may be asked to do: to answer a question on a document, or the lines of a session
 pub data Mode : Type 0 where
@@ -52,11 +61,12 @@ pub data Mode : Type 0 where
 abbrev pub slice_question : List ℕ → List ℕ → Option Question
 slice_question name path = option_map (slices name) (path_in path)
 
--- `look`, `replay`, or `slice NAME PATH`
+-- `look`, `replay`, `normalise NAME`, or `slice NAME PATH`
 abbrev pub mode_of : List (List ℕ) → Option Mode
 mode_of (word ∷ []) =
     if bytes_eq word (codes "look") then Some (asks looks) else (
     if bytes_eq word (codes "replay") then Some replays else None)
+mode_of (word ∷ name ∷ []) = if bytes_eq word (codes "normalise") then Some (asks (normalises name)) else None
 mode_of (word ∷ name ∷ path ∷ []) = if bytes_eq word (codes "slice") then option_map asks (slice_question name path) else None
 mode_of words = None
 
@@ -75,6 +85,7 @@ is_yes (Generator dim name number) = true
 is_yes (Stored dim length name word) = true
 is_yes (Named name word) = true
 is_yes (Slice nodes root) = true
+is_yes (Normalise arrow factors name nodes source) = true
 is_yes (Equal value) = true
 is_yes (Stats arrows diagrams generators maps named) = true
 is_yes (Save document) = true
@@ -117,10 +128,30 @@ abbrev pub slice_reply : Document → List ℕ → List Height → Reply
 slice_reply document name path = reply_of (
     or_refuse (Unknown name) (root_of name document.diagrams) >>= λ root. slice_found (slice_along (tree_at document.nodes root) path))
 
+-- the normal form of a diagram with no legs, or its first bad square
+abbrev pub diagram_normal : List ℕ → Tree → Reply
+diagram_normal name t =
+    reply_of (no_fault (option_map (λ p. fault.SquareAt p) (diagram_fault t)) >>= λ valid. Ok (normal_reply name (normal_trees t [])))
+
+-- the normal form of the target of a map with the map as the one leg, or the first bad square of the map
+abbrev pub map_normal : List ℕ → NamedMap → Reply
+map_normal name m = reply_of (no_fault (map_fault m) >>= λ valid. Ok (normal_reply name (normal_trees m.target (m ∷ []))))
+
+-- the map of this name
+abbrev pub map_of : List ℕ → List MapEntry → Option MapEntry
+map_of name entries = find (λ e. bytes_eq e.name name) entries
+
+-- what `normalise` says of the diagram of this name, or else of the map
+abbrev pub normalise_reply : Document → List ℕ → Reply
+normalise_reply document name = reply_of (or_refuse (Unknown name) (first_of
+    (option_map (λ root. diagram_normal name (tree_at document.nodes root)) (root_of name document.diagrams))
+    (option_map (λ e. map_normal name (map_at name document.nodes e.source e.target e.arrow)) (map_of name document.maps))))
+
 -- the replies to a question on a document
 abbrev pub replies : Question → Document → List Reply
 replies looks document = map (look_reply document.nodes) document.diagrams
 replies (slices name path) document = slice_reply document name path ∷ []
+replies (normalises name) document = normalise_reply document name ∷ []
 
 -- the replies in order, a line for each
 abbrev pub replying : List Reply → Run

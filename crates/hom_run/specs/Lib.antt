@@ -2,3 +2,4 @@ pub mod Status
 pub mod Full
 pub mod Modes
 pub mod Taken
+pub mod Named

@@ -7,11 +7,12 @@ use Rattle.hom_run.specs.declared.words.Asked.{Asked}
 use Rattle.hom_run.specs.declared.words.Asked.TheVariants as asked
 use Rattle.hom_run.specs.declared.words.Query.{Query}
 use Rattle.hom_run.specs.declared.words.Query.TheVariants as query
-use Rattle.hom_run.specs.Full.{Mode, Question, Run, asks, fault_run, looks, replays, replies, replying, slice_question}
+use Rattle.hom_run.specs.Full.{Mode, Question, Run, asks, fault_run, looks, normalises, replays, replies, replying, slice_question}
 
 abbrev pub question_in : Query → Option Question
 question_in query.Look = Some looks
 question_in (query.Slice name path) = slice_question name.now path.now
+question_in (query.Normalise name) = Some (normalises name.now)
 
 abbrev pub mode_in : Asked → Option Mode
 mode_in (asked.Document question) = option_map asks (question_in question)

@@ -8,6 +8,7 @@ ghost use Rattle.hom_run.specs.Full.{Writes};
 ghost use Rattle.hom_run.specs.Modes.{question_in, question_run};
 
 use crate::look::write_looks;
+use crate::normal::write_normal;
 use crate::slice::write_slice;
 use crate::status::Status;
 use crate::words::Query;
@@ -37,6 +38,7 @@ fn write_replies<K: Sink>(
     match query {
         Query::Look => write_looks(alloc, document, output),
         Query::Slice { name, path } => write_slice(alloc, document, name, path, output),
+        Query::Normalise { name } => write_normal(alloc, document, name, output),
     }
 }
 

@@ -1,9 +1,11 @@
-//! All that the program `hom` does on its words: `run`, with its modes `look`, `slice` and `replay`.
+//! All that the program `hom` does on its words: `run`, with its modes `look`, `slice`, `normalise` and
+//! `replay`.
 #![tactic(auto)]
 
 mod answer;
 mod look;
 mod nodes;
+mod normal;
 mod program;
 mod replay;
 mod slice;

@@ -1,7 +1,7 @@
 ghost use Rattle.std.specs.Prelude.{◌≡◌};
-ghost use Rattle.hashcons.specs.Ids.{IsDiagramId};
+ghost use Rattle.hashcons.specs.Ids.{IsArrowId, IsDiagramId};
 
-use hashcons::{AnyId, DiagramId};
+use hashcons::{AnyId, ArrowId, DiagramId};
 
 /// The diagram that an id stands for.
 pub(crate) fn diagram_of(id: AnyId) -> DiagramId
@@ -11,5 +11,16 @@ pub(crate) fn diagram_of(id: AnyId) -> DiagramId
     match id {
         AnyId::Diagram(diagram) => diagram,
         AnyId::Arrow(_) => unreachable!(),
+    }
+}
+
+/// The arrow that an id stands for.
+pub(crate) fn arrow_of(id: AnyId) -> ArrowId
+    requires { IsArrowId id }
+    ensures { id ≡ AnyId.Arrow result }
+{
+    match id {
+        AnyId::Diagram(_) => unreachable!(),
+        AnyId::Arrow(arrow) => arrow,
     }
 }

@@ -9,17 +9,17 @@ ghost use Rattle.hom_run.specs.Modes.{question_run};
 
 use crate::nodes::diagram_of;
 use crate::status::Status;
-use crate::writing::{is_yes, write_line};
+use crate::writing::write_reply;
 use boundary_paths::{NoHeight, slice};
 use diagram_terms::{Height, Text};
 use hashcons::Store;
 use io_edge::{Sink, WriteAllFault};
 use std::alloc::{AllocError, Global};
-use workspace_json::{Document, Refusal, Reply, path_of, reply_text};
+use workspace_json::{Document, Refusal, Reply, path_of};
 use workspace_lists::printed;
 
 /// The place of the diagram of this name.
-fn root_named(document: &Document, name: &str) -> Option<usize>
+pub(crate) fn root_named(document: &Document, name: &str) -> Option<usize>
     ensures { result ≡ root_of name.now document.now.diagrams }
 {
     document
@@ -77,10 +77,5 @@ pub(crate) fn write_slice<K: Sink>(
         unreachable!();
     };
     let reply = slice_reply(alloc, document, name, heights.as_slice())?;
-    write_line(output, reply_text(alloc, &reply)?)?;
-    if is_yes(&reply) {
-        Ok(Status::Done)
-    } else {
-        Ok(Status::Refused)
-    }
+    write_reply(alloc, &reply, output)
 }

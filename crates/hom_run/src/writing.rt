@@ -1,14 +1,14 @@
-ghost use Rattle.std.specs.Prelude.{◌≡◌, ◌≢◌, ◌≤◌, OnOk, OnErr, IsErrOf, IfOk};
+ghost use Rattle.std.specs.Prelude.{◌≡◌, ◌≢◌, ◌≤◌, [], ◌∷◌, OnOk, OnErr, IsErrOf, IfOk};
 ghost use Rattle.std.specs.Io.KnownBytes.{Appends};
 ghost use Rattle.io_edge.specs.Counts.{Rose};
 ghost use Rattle.io_edge.specs.Transfers.{AppendsLess, AppendsPrefix};
 ghost use Rattle.workspace_json.specs.Replies.{text_of_fault};
-ghost use Rattle.hom_run.specs.Full.{is_yes as is_yes_lem, line};
+ghost use Rattle.hom_run.specs.Full.{is_yes as is_yes_lem, line, replying};
 
 use crate::status::Status;
 use io_edge::{Sink, WriteAllFault, write_all};
 use std::alloc::Global;
-use workspace_json::{FormFault, Reply, form_text};
+use workspace_json::{FormFault, Reply, form_text, reply_text};
 
 /// Whether a reply is a yes: neither a `no` nor a refusal.
 pub(crate) fn is_yes(reply: &Reply) -> bool
@@ -21,6 +21,7 @@ pub(crate) fn is_yes(reply: &Reply) -> bool
         | Reply::Stored { .. }
         | Reply::Named { .. }
         | Reply::Slice { .. }
+        | Reply::Normalise { .. }
         | Reply::Equal { .. }
         | Reply::Stats { .. }
         | Reply::Save { .. }
@@ -43,6 +44,29 @@ pub(crate) fn write_line<K: Sink>(output: &mut K, text: Vec<u8>) -> Result<(), W
     let mut piece = text;
     piece.push(b'\n')?;
     write_all(output, &piece)
+}
+
+/// Writes the line of the one reply of a run.
+pub(crate) fn write_reply<K: Sink>(
+    alloc: Global,
+    reply: &Reply,
+    output: &mut K,
+) -> Result<Status, WriteAllFault>
+    ensures ok { IfOk result (λ status. status ≡ (replying (reply.now ∷ [])).status) }
+    ensures wrote { OnOk result
+        (Appends (K.written output.old) (K.written output.new) (replying (reply.now ∷ [])).text) }
+    ensures err { OnErr result
+        (AppendsPrefix (K.written output.old) (K.written output.new) (replying (reply.now ∷ [])).text) }
+    ensures later { K.faults output.old ≤ K.faults output.new }
+    ensures cause { IsErrOf result WriteAllFault.WriteFault
+        → Rose (K.faults output.old) (K.faults output.new) }
+{
+    write_line(output, reply_text(alloc, reply)?)?;
+    if is_yes(reply) {
+        Ok(Status::Done)
+    } else {
+        Ok(Status::Refused)
+    }
 }
 
 /// Writes the line of a form fault.

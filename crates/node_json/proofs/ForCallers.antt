@@ -9,7 +9,7 @@ use Rattle.node_json.specs.declared.document.Document.{Document}
 use Rattle.node_json.specs.Printing.{whole, numbers_data, node_data, nodes_data, named_data, generator_data, diagram_data, map_data, document_data}
 use Rattle.node_json.proofs.PrintedLists.{items_no_float}
 
-numbers_no_float : (ns : List ℕ) → has_float (numbers_data ns) ≡ false
+pub numbers_no_float : (ns : List ℕ) → has_float (numbers_data ns) ≡ false
 numbers_no_float ns = items_no_float whole (λ n. refl) ns
 
 node_no_float : (n : Node) → has_float (node_data n) ≡ false

@@ -23,6 +23,7 @@ pub enum Field {
     Path,
     First,
     Then,
+    Legs,
     One,
     Two,
 }

@@ -19,5 +19,5 @@ pub use laws::documents_are_read_back;
 pub use names::is_good_name;
 pub use nodes::{Nodes, nodes_in};
 pub use parts::{has_keys, keyed, list_at, text_at, value_of};
-pub use printing::{document_text, document_value, nodes_value};
+pub use printing::{document_text, document_value, nodes_value, numbers_value};
 pub use reading::{field_fault, read_document};

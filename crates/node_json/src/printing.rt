@@ -7,7 +7,8 @@ use diagram_terms::{Label, Node};
 use serde_json::{Value, json};
 use std::alloc::{AllocError, Global};
 
-fn numbers_value(alloc: Global, numbers: &[usize]) -> Result<Value, AllocError>
+/// The value of a list of numbers.
+pub fn numbers_value(alloc: Global, numbers: &[usize]) -> Result<Value, AllocError>
     ensures { IfOk result (λ value. view value ≡ numbers_data numbers.now) }
 {
     let mut values = Vec::with_capacity(alloc, numbers.len())?;

@@ -9,6 +9,7 @@ use std::test::Fail;
 mod faults;
 mod hostile;
 mod long_inputs;
+mod normal_forms;
 mod numbers;
 mod replays;
 

@@ -1,3 +1,4 @@
 mod maps;
+mod normal_forms;
 mod sessions;
 mod workspaces;

@@ -2,8 +2,10 @@ pub mod AddedGenerators
 pub mod BroughtMaps
 pub mod DroppedThings
 pub mod EqualIds
+pub mod LegMaps
 pub mod LowTerms
 pub mod MapFaults
+pub mod NormalForms
 pub mod StoredDiagrams
 pub mod StoredMaps
 pub mod TestedCommands

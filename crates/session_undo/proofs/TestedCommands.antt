@@ -1,5 +1,6 @@
 -- Commands, test by test.
 use Rattle.std.proofs.Common.{◌≡◌, ℕ, List, Bool, Result, Ok, Err, refl, ap, subst, ◌∙◌}
+use Rattle.std.specs.List.{list_all}
 use Rattle.std.specs.Prelude.{nat_lt}
 use Rattle.diagram_terms.specs.declared.limits.TheConstants.{GREATEST_DIM}
 use Rattle.diagram_terms.specs.declared.node.Node.{Node}
@@ -17,6 +18,7 @@ use Rattle.workspace_json.specs.declared.reply.Reply.TheVariants as reply
 use Rattle.workspace_json.specs.declared.reply.Word.TheVariants as word
 use Rattle.workspace_json.specs.Maps.{NamedMap, composite_map, map_fault}
 use Rattle.workspace_json.specs.MapSteps.{added, bring_change, compose_change, known_map, map_at}
+use Rattle.workspace_json.specs.NormalSteps.{known_maps, normal_trees, normalise_change, with_normal}
 use Rattle.workspace_json.specs.Sessions.{Session, change, read}
 use Rattle.workspace_json.specs.Steps.{◌>>=◌, Changed, boundary_change, drop_change, end_of, equal_answer, identity_change, known, new_name, no_fault, referred, refuse_unless, slice_answer, slice_found, stored}
 use Rattle.workspace_json.specs.Workspaces.{Workspace, can_be_dropped, without}
@@ -36,6 +38,12 @@ pub stopped_answer : {B : Type 0} (w : Result B Refusal) (done : Result Reply Re
     → ((r : Refusal) → w ≡ Err r → done ≡ Err r) → Answers {A = Reply} {B = Reply} (λ r. r) done (Err e)
 stopped_answer w done (stop.Refused r) h by = by r h
 stopped_answer w done stop.NoMemory h by = tt
+
+-- a part of an answer
+pub part_stopped : {A B C D : Type 0} (part : A → B) (whole : C → D) (w : Result B Refusal) (done : Result D Refusal) (e : Stop) → Answers part w (Err e)
+    → ((r : Refusal) → w ≡ Err r → done ≡ Err r) → Answers whole done (Err e)
+part_stopped part whole w done (stop.Refused r) h by = by r h
+part_stopped part whole w done stop.NoMemory h by = tt
 
 -- what a part of a command comes to, the whole comes to
 pub comes_by : (S S' T : Session) (a b : Result Changed Refusal) (r : Result Reply Stop) → S ≡ S' → a ≡ b → ComesTo (change S a) S T r → ComesTo (change S' b) S' T r
@@ -152,6 +160,41 @@ module _ (W : Workspace) (name first second : List ℕ) where
   compose_tested m n b e f g h =
       ap (λ (x : Result (Unit {0}) Refusal). x >>= compose_named) e ∙ ap (λ x. x >>= compose_second) f
       ∙ ap (λ x. x >>= λ k. compose_met m k (same_tree m.target k.source)) g ∙ ap (compose_met m n) h
+
+-- ---- normalise
+
+module _ (W : Workspace) (name of : List ℕ) (legs : List (List ℕ)) where
+  abbrev pub normalise_met : Tree → List NamedMap → Bool → Result Changed Refusal
+  normalise_met t ms b = refuse_unless b refusal.EndsDiffer >>= λ _. Ok (with_normal W name t (normal_trees t ms))
+
+  abbrev normalise_over : Tree → List NamedMap → Result Changed Refusal
+  normalise_over t ms = normalise_met t ms (list_all (λ m. same_tree m.target t) ms)
+
+  abbrev normalise_into : Tree → Result Changed Refusal
+  normalise_into t = known_maps W legs >>= normalise_over t
+
+  abbrev normalise_named : Unit {0} → Result Changed Refusal
+  normalise_named u = referred W of >>= normalise_into
+
+  pub normalise_unnamed : (r : Refusal) → new_name W name ≡ Err r → normalise_change W name of legs ≡ Err r
+  unfolding normalise_change
+  normalise_unnamed r e = ap (λ (x : Result (Unit {0}) Refusal). x >>= normalise_named) e
+
+  pub normalise_unknown : (r : Refusal) → new_name W name ≡ Ok tt → referred W of ≡ Err r → normalise_change W name of legs ≡ Err r
+  unfolding normalise_change
+  normalise_unknown r e f = ap (λ (x : Result (Unit {0}) Refusal). x >>= normalise_named) e ∙ ap (λ x. x >>= normalise_into) f
+
+  pub normalise_no_leg : (t : Tree) (r : Refusal) → new_name W name ≡ Ok tt → referred W of ≡ Ok t → known_maps W legs ≡ Err r → normalise_change W name of legs ≡ Err r
+  unfolding normalise_change
+  normalise_no_leg t r e f g =
+      ap (λ (x : Result (Unit {0}) Refusal). x >>= normalise_named) e ∙ ap (λ x. x >>= normalise_into) f ∙ ap (λ x. x >>= normalise_over t) g
+
+  pub normalise_tested : (t : Tree) (ms : List NamedMap) (b : Bool) → new_name W name ≡ Ok tt → referred W of ≡ Ok t → known_maps W legs ≡ Ok ms
+      → list_all (λ m. same_tree m.target t) ms ≡ b → normalise_change W name of legs ≡ normalise_met t ms b
+  unfolding normalise_change
+  normalise_tested t ms b e f g h =
+      ap (λ (x : Result (Unit {0}) Refusal). x >>= normalise_named) e ∙ ap (λ x. x >>= normalise_into) f ∙ ap (λ x. x >>= normalise_over t) g
+      ∙ ap (normalise_met t ms) h
 
 -- ---- slice and equal
 

@@ -1,4 +1,5 @@
 pub mod Views
 pub mod Equals
 pub mod Added
+pub mod NormalForms
 pub mod Outcomes

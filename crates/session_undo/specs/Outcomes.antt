@@ -4,6 +4,8 @@ use Rattle.workspace_json.specs.declared.refusal.Refusal.{Refusal}
 use Rattle.workspace_json.specs.declared.reply.Reply.{Reply}
 use Rattle.workspace_json.specs.declared.reply.Reply.TheVariants as reply
 use Rattle.workspace_json.specs.Sessions.{Session, Stepped}
+use Rattle.workspace_json.specs.Steps.{Changed}
+use Rattle.workspace_json.specs.Workspaces.{Workspace}
 use Rattle.workspace_lists.specs.Held.{Lists}
 use Rattle.session_state.specs.declared.edit.Edit.{Edit}
 use Rattle.session_state.specs.declared.edit.Edit.TheVariants as edit
@@ -15,6 +17,10 @@ abbrev pub ComesTo : Stepped → Session → Session → Result Reply Stop → T
 ComesTo wanted old new (Ok r) = wanted ≡ record { reply = r; session = new }
 ComesTo wanted old new (Err (stop.Refused r)) = wanted ≡ record { reply = reply.Refused r; session = new }
 ComesTo wanted old new (Err stop.NoMemory) = new ≡ old
+
+-- an accepted change with this reply
+abbrev pub changed : Reply → Workspace → Changed
+changed r W = record { reply = r; workspace = W }
 
 -- the answer to a question
 abbrev pub Answers : {A B : Type 0} → (A → B) → Result B Refusal → Result A Stop → Type 0

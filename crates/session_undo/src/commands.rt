@@ -8,6 +8,7 @@ use crate::diagrams::{boundary_command, identity_command};
 use crate::dropping::drop_command;
 use crate::generators::generator_command;
 use crate::maps::{bring_command, compose_command};
+use crate::normal_forms::normalise_command;
 use crate::reading::{equal_command, save_command, slice_command, stats_command};
 use crate::stop::Stop;
 use crate::turning::{redo_command, undo_command};
@@ -32,6 +33,12 @@ pub(crate) fn apply(state: &mut State, command: &Command) -> Result<Reply, Stop>
             arrow,
         } => bring_command(state, name, nodes.as_slice(), *source, *target, *arrow),
         Command::Compose { name, first, then_ } => compose_command(state, name, first, then_),
+        Command::Normalise { name, of, legs } => normalise_command(
+            state,
+            name,
+            of,
+            legs.as_slice(),
+        ),
         Command::Generator {
             name,
             source,

@@ -108,10 +108,15 @@ fn check_map(state: &mut State, map: &Map) -> Result<(), Stop>
     }
 }
 
-/// The first bad place of a map.
-fn first_bad_place(alloc: Global, store: &mut Store, map: &Map) -> Result<Option<Place>, AllocError>
+/// The first bad place of a map: of its source, else of its target, else of its arrow.
+pub fn first_bad_place(
+    alloc: Global,
+    store: &mut Store,
+    map: &Map,
+) -> Result<Option<Place>, AllocError>
     requires { IsMapOf store.old map.now }
     ensures exact { IfOk result (λ found. (name : List ℕ) → found ≡ map_place (map_called store.old name map.now)) }
+    ensures valid { IfOk result (λ found. found ≡ None → IsValidMap store.new map.now) }
     ensures grows { Grows store.old store.new }
 {
     if let Some(place) = end_fault(alloc, store, map.source, Step::SourceEnd)? {
@@ -170,7 +175,7 @@ pub(crate) fn compose_command(
 }
 
 /// The stored map of a name.
-fn find_map(state: &State, name: &Text) -> Result<Map, Stop>
+pub(crate) fn find_map(state: &State, name: &Text) -> Result<Map, Stop>
     requires { IsState state.now }
     ensures answer { Answers (map_called state.now.store name.now) (known_map (present_of state.now) name.now) result }
     ensures valid { IfOk result (IsValidMap state.now.store) }

@@ -8,7 +8,7 @@ ghost use Rattle.workspace_json.specs.MapSteps.{added};
 ghost use Rattle.workspace_json.specs.Steps.{new_name, stored};
 ghost use Rattle.workspace_json.specs.Workspaces.{IsWorkspace, with_map};
 ghost use Rattle.workspace_lists.specs.Held.{IsMapOf, map_called};
-ghost use Rattle.session_undo.specs.Outcomes.{ComesTo};
+ghost use Rattle.session_undo.specs.Outcomes.{ComesTo, changed};
 
 use crate::lookups::check;
 use crate::stop::Stop;
@@ -65,12 +65,22 @@ pub(crate) fn add_map(state: &mut State, word: Word, name: &Text, map: Map) -> R
         (change (session_of state.old) (Ok (added (present_of state.old) word (map_called state.old.store name.now map))))
         (session_of state.old) (session_of state.new) result }
 {
-    let alloc = state.store.allocator();
-    let reply = Reply::Named {
-        name: name.copy(alloc)?,
-        word,
-    };
-    let name = name.copy(alloc)?;
+    let said = name.copy(state.store.allocator())?;
+    put_map(state, name, map, Reply::Named { name: said, word })
+}
+
+/// Adds a map under a new name, and answers this reply.
+pub(crate) fn put_map(state: &mut State, name: &Text, map: Map, reply: Reply) -> Result<Reply, Stop>
+    requires state { IsState state.old }
+    requires of_store { IsMapOf state.old.store map }
+    requires rule { IsWorkspace (with_map (present_of state.old) (map_called state.old.store name.now map)) }
+    ensures state { IsState state.new }
+    ensures grows { Grows state.old.store state.new.store }
+    ensures comes { ComesTo
+        (change (session_of state.old) (Ok (changed reply (with_map (present_of state.old) (map_called state.old.store name.now map)))))
+        (session_of state.old) (session_of state.new) result }
+{
+    let name = name.copy(state.store.allocator())?;
     state.make_room(name.as_str())?;
     let place = state.entries.workspace.maps.len();
     state.accept(Edit::PutMap {

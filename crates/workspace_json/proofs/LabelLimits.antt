@@ -26,10 +26,10 @@ use Rattle.diagram_terms.proofs.NodeForms.{AreChildren, NodeFits, form_at, tree_
 use Rattle.diagram_terms.proofs.NodeShapes.{IsOfSort, fits_at, get-picked, is_of_sort, length-picked}
 use Rattle.workspace_json.specs.Maps.{HasLabelsWithinLimits, own_labels}
 
-abbrev Within : Label → Type 0
+abbrev pub Within : Label → Type 0
 Within x = is_within_limits x ≡ true
 
-abbrev OwnWithin : Tree → Type 0
+abbrev pub OwnWithin : Tree → Type 0
 OwnWithin t = All Within (own_labels t)
 
 -- ---- a tree by its children
@@ -46,20 +46,20 @@ each_in (t ∷ ts) h =
     All-cons HasLabelsWithinLimits t ts (All-left OwnWithin (completions t) (flat_map completions ts) h)
     (each_in ts (All-right OwnWithin (completions t) (flat_map completions ts) h))
 
-abbrev IsCompleted : Tree → Type 0
+abbrev pub IsCompleted : Tree → Type 0
 IsCompleted t = completions t ≡ flat_map completions (children t) ++ t ∷ []
 
-from_children : (t : Tree) → IsCompleted t → OwnWithin t → All HasLabelsWithinLimits (children t) → HasLabelsWithinLimits t
+pub from_children : (t : Tree) → IsCompleted t → OwnWithin t → All HasLabelsWithinLimits (children t) → HasLabelsWithinLimits t
 from_children t e own below =
     subst (All OwnWithin) (sym e)
     (All-append OwnWithin (flat_map completions (children t)) (t ∷ []) (all_in (children t) below) (All-cons OwnWithin t [] own (All-nil OwnWithin)))
 
-its_own : (t : Tree) → IsCompleted t → HasLabelsWithinLimits t → OwnWithin t
+pub its_own : (t : Tree) → IsCompleted t → HasLabelsWithinLimits t → OwnWithin t
 its_own t e h =
     let h2 : All OwnWithin (flat_map completions (children t) ++ t ∷ []) = subst (All OwnWithin) e h in
     All-head OwnWithin t [] (All-right OwnWithin (flat_map completions (children t)) (t ∷ []) h2)
 
-its_children : (t : Tree) → IsCompleted t → HasLabelsWithinLimits t → All HasLabelsWithinLimits (children t)
+pub its_children : (t : Tree) → IsCompleted t → HasLabelsWithinLimits t → All HasLabelsWithinLimits (children t)
 its_children t e h =
     let h2 : All OwnWithin (flat_map completions (children t) ++ t ∷ []) = subst (All OwnWithin) e h in
     each_in (children t) (All-left OwnWithin (flat_map completions (children t)) (t ∷ []) h2)
@@ -69,11 +69,11 @@ its_children t e h =
 abbrev labels_by : ℕ → Label → Label → Label → List Label
 labels_by k x y z = if k == 0 then x ∷ [] else (if k == 2 then y ∷ z ∷ [] else [])
 
-own-point : (x : Label) → own_labels (point x) ≡ x ∷ []
+pub own-point : (x : Label) → own_labels (point x) ≡ x ∷ []
 own-point x =
     ap (λ k. labels_by k (label_at (point x)) (from_at (point x)) (to_at (point x))) (kind-point x) ∙ ap (λ y. y ∷ []) (label_at-point x)
 
-own-zig : (rs ss fs bs : List Tree) → own_labels (zig rs ss fs bs) ≡ []
+pub own-zig : (rs ss fs bs : List Tree) → own_labels (zig rs ss fs bs) ≡ []
 own-zig rs ss fs bs =
     let t = zig rs ss fs bs in ap (λ k. labels_by k (label_at t) (from_at t) (to_at t)) (kind-zig rs ss fs bs)
 
@@ -85,7 +85,7 @@ own-ends x y =
 own-zag : (hs : List ℕ) (rs ss : List Tree) → own_labels (zag hs rs ss) ≡ []
 own-zag hs rs ss = let t = zag hs rs ss in ap (λ k. labels_by k (label_at t) (from_at t) (to_at t)) (kind-zag hs rs ss)
 
-none_own : (t : Tree) → own_labels t ≡ [] → OwnWithin t
+pub none_own : (t : Tree) → own_labels t ≡ [] → OwnWithin t
 none_own t e = subst (All Within) (sym e) (All-nil Within)
 
 both_within : (a b : Bool) → a && b ≡ true → (a ≡ true) × (b ≡ true)
@@ -152,7 +152,7 @@ module _ (nodes : List Node) (are : AreNodes nodes) where
 -- ---- arrows of the family
 
 -- all labels of an arrow are within the limits
-abbrev ArrowWithin : (d : ℕ) → Arr d → Type 0
+abbrev pub ArrowWithin : (d : ℕ) → Arr d → Type 0
 ArrowWithin zero f = Within f.from × Within f.to
 ArrowWithin (suc d) f = All (ArrowWithin d) f.regs × All (ArrowWithin d) f.sings
 
@@ -206,7 +206,7 @@ its_arrow (suc d) t h w =
     )
 
 -- the other way round
-from_arrow : (d : ℕ) (t : Tree) → IsArrow d t → ArrowWithin d (arr d t) → HasLabelsWithinLimits t
+pub from_arrow : (d : ℕ) (t : Tree) → IsArrow d t → ArrowWithin d (arr d t) → HasLabelsWithinLimits t
 from_arrow zero t h w =
     from_children t (arrow_completed zero t h) (subst OwnWithin (sym h) (two_within (from_at t) (to_at t) w.0 w.1))
     (subst (All HasLabelsWithinLimits) (sym (ap children h ∙ children-ends (from_at t) (to_at t))) (All-nil HasLabelsWithinLimits))

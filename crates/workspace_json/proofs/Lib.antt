@@ -11,4 +11,8 @@ mod ReadForms
 mod LabelLimits
 pub mod KeptRules
 pub mod MapRules
+pub mod DiagramLabels
+pub mod SoundTerms
+pub mod NormalRules
+mod SampleNormalForms
 pub mod References

@@ -88,15 +88,15 @@ valid_arrow n k d s t f hs ht hf e =
 
 -- ---- the labels of a map
 
-all_labels : (m : NamedMap) → HasLabelsWithinLimits m.source → HasLabelsWithinLimits m.target → HasLabelsWithinLimits m.arrow → All HasLabelsWithinLimits (map_trees m)
+pub all_labels : (m : NamedMap) → HasLabelsWithinLimits m.source → HasLabelsWithinLimits m.target → HasLabelsWithinLimits m.arrow → All HasLabelsWithinLimits (map_trees m)
 all_labels m a b c =
     All-cons HasLabelsWithinLimits m.source (m.target ∷ m.arrow ∷ []) a
     (All-cons HasLabelsWithinLimits m.target (m.arrow ∷ []) b (All-cons HasLabelsWithinLimits m.arrow [] c (All-nil HasLabelsWithinLimits)))
 
-source_labels : (m : NamedMap) → IsMap m → HasLabelsWithinLimits m.source
+pub source_labels : (m : NamedMap) → IsMap m → HasLabelsWithinLimits m.source
 source_labels m h = All-head HasLabelsWithinLimits m.source (m.target ∷ m.arrow ∷ []) h.labels
 
-target_labels : (m : NamedMap) → IsMap m → HasLabelsWithinLimits m.target
+pub target_labels : (m : NamedMap) → IsMap m → HasLabelsWithinLimits m.target
 target_labels m h = All-head HasLabelsWithinLimits m.target (m.arrow ∷ []) (All-tail HasLabelsWithinLimits m.source (m.target ∷ m.arrow ∷ []) h.labels)
 
 arrow_labels : (m : NamedMap) → IsMap m → HasLabelsWithinLimits m.arrow
@@ -131,10 +131,10 @@ brought_is_map name nodes source target arrow h e =
 -- ---- composites
 
 -- valid at any dimension that the tree has
-valid_at : (d : ℕ) (t : Tree) → IsDiagram d t → IsValidTree t → Valid d (dia d t)
+pub valid_at : (d : ℕ) (t : Tree) → IsDiagram d t → IsValidTree t → Valid d (dia d t)
 valid_at d t h v = subst (λ n. Valid n (dia n t)) (one_diagram_dimension v.dim d t v.at_dim.shape h) v.at_dim.valid
 
-between_at : (d : ℕ) (s t f : Tree) → IsDiagram d s → IsArrowBetween s t f → IsArrowBetweenAt d s t f
+pub between_at : (d : ℕ) (s t f : Tree) → IsDiagram d s → IsArrowBetween s t f → IsArrowBetweenAt d s t f
 between_at d s t f h b = subst (λ n. IsArrowBetweenAt n s t f) (one_diagram_dimension b.dim d s b.at_dim.source h) b.at_dim
 
 composite_is_map : (name : List ℕ) (g f : NamedMap) → IsMap g → IsMap f → f.target ≡ g.source → IsMap (composite_map name g f)
@@ -172,12 +172,12 @@ composite_is_map name g f hg hf e =
 
 -- ---- what the commands add
 
-record Gave {A B : Type 0} (read : Result A Refusal) (f : A → Result B Refusal) (y : B) : Type 0 where
-  value : A
-  was : read ≡ Ok value
-  rest : f value ≡ Ok y
+pub record Gave {A B : Type 0} (read : Result A Refusal) (f : A → Result B Refusal) (y : B) : Type 0 where
+  pub value : A
+  pub was : read ≡ Ok value
+  pub rest : f value ≡ Ok y
 
-gave : {A B : Type 0} (read : Result A Refusal) (f : A → Result B Refusal) (y : B) → (read >>= f) ≡ Ok y → Gave read f y
+pub gave : {A B : Type 0} (read : Result A Refusal) (f : A → Result B Refusal) (y : B) → (read >>= f) ≡ Ok y → Gave read f y
 gave (Ok x) f y e = record { value = x; was = refl; rest = e }
 gave (Err r) f y e = absurd (let z : ⊥ = cc in z)
 
@@ -185,7 +185,7 @@ fault_free : (o : Option Fault) → no_fault o ≡ Ok tt → o ≡ None
 fault_free None e = refl
 fault_free (Some f) e = absurd (let z : ⊥ = cc in z)
 
-allowed : (b : Bool) (r : Refusal) → refuse_unless b r ≡ Ok tt → b ≡ true
+pub allowed : (b : Bool) (r : Refusal) → refuse_unless b r ≡ Ok tt → b ≡ true
 allowed true r e = refl
 allowed false r e = absurd (let z : ⊥ = cc in z)
 
@@ -194,13 +194,13 @@ one_or_other : (P : NamedMap → Type 0) (r : Refusal) (b : Bool) (n m : NamedMa
 one_or_other P r true n m o h rest e = let same : n ≡ m = cc in subst P same h
 one_or_other P r false n m o h rest e = rest e
 
-named_in : (P : NamedMap → Type 0) (ms : List NamedMap) (name : List ℕ) (r : Refusal) (m : NamedMap) → All P ms → or_refuse r (map_named ms name) ≡ Ok m → P m
+pub named_in : (P : NamedMap → Type 0) (ms : List NamedMap) (name : List ℕ) (r : Refusal) (m : NamedMap) → All P ms → or_refuse r (map_named ms name) ≡ Ok m → P m
 named_in P [] name r m h e = absurd (let z : ⊥ = cc in z)
 named_in P (n ∷ ms) name r m h e =
     one_or_other P r (bytes_eq n.name name) n m (map_named ms name) (All-head P n ms h) (λ rest. named_in P ms name r m (All-tail P n ms h) rest) e
 
 -- an answer
-abbrev answered : Changed → Result Changed Refusal
+abbrev pub answered : Changed → Result Changed Refusal
 answered c = Ok c
 
 added_keeps : (W : Workspace) (w : Word) (m : NamedMap) (c : Changed) → IsWorkspace W → new_name W m.name ≡ Ok tt → IsMap m

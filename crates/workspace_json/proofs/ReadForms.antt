@@ -14,7 +14,7 @@ use Rattle.node_json.proofs.NodesKept.{are_nodes}
 use Rattle.node_json.proofs.Passed.{gave}
 use Rattle.workspace_json.specs.declared.command.Command.{Command}
 use Rattle.workspace_json.specs.declared.command.Command.TheVariants as command
-use Rattle.workspace_json.specs.Commands.{arrow_in, bare_row, boundary_row, bring_row, cell_row, command_of, compose_row, diagram_in, drop_row, equal_row, generator_row, heights_at, identity_row, keyed, nodes_at, point_row, row_of, side_in, slice_row, text_in}
+use Rattle.workspace_json.specs.Commands.{arrow_in, bare_row, boundary_row, bring_row, cell_row, command_of, compose_row, diagram_in, drop_row, equal_row, generator_row, heights_at, identity_row, keyed, nodes_at, normalise_row, point_row, row_of, side_in, slice_row, text_in, texts_in}
 use Rattle.workspace_json.specs.Forms.{HasForm}
 use Rattle.workspace_json.specs.Replies.{word_of}
 
@@ -104,6 +104,15 @@ compose_form d c e =
     let s = gave (text_in field.Then d) _ c f.then in
     made (command.Compose n.value f.value s.value) c tt s.then
 
+normalise_form : (d : Data) → Reads (normalise_row d)
+unfolding normalise_row
+normalise_form d c e =
+    let k = gave (keyed (codes "do" ∷ codes "name" ∷ codes "of" ∷ codes "legs" ∷ []) d) _ c e in
+    let n = gave (text_in field.Name d) _ c k.then in
+    let o = gave (text_in field.Of d) _ c n.then in
+    let l = gave (texts_in field.Legs d) _ c o.then in
+    made (command.Normalise n.value o.value l.value) c tt l.then
+
 equal_form : (d : Data) → Reads (equal_row d)
 unfolding equal_row
 equal_form d c e =
@@ -133,13 +142,14 @@ row_form word d =
     either (bytes_eq word (codes "boundary")) (boundary_row d) _ (boundary_form d) (
     either (bytes_eq word (codes "slice")) (slice_row d) _ (slice_form d) (
     either (bytes_eq word (codes "compose")) (compose_row d) _ (compose_form d) (
+    either (bytes_eq word (codes "normalise")) (normalise_row d) _ (normalise_form d) (
     either (bytes_eq word (codes "equal")) (equal_row d) _ (equal_form d) (
     either (bytes_eq word (codes "drop")) (drop_row d) _ (drop_form d) (
     either (bytes_eq word (codes "stats")) (bare_row command.Stats d) _ (bare_form command.Stats d tt) (
     either (bytes_eq word (codes "save")) (bare_row command.Save d) _ (bare_form command.Save d tt) (
     either (bytes_eq word (codes "undo")) (bare_row command.Undo d) _ (bare_form command.Undo d tt) (
     either (bytes_eq word (codes "redo")) (bare_row command.Redo d) _ (bare_form command.Redo d tt)
-    (none_read (field_fault field.Do)))))))))))))
+    (none_read (field_fault field.Do))))))))))))))
 
 command_form : (d : Data) → Reads (command_of d)
 unfolding command_of

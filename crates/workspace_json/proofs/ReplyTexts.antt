@@ -1,7 +1,7 @@
 -- What is printed for a reply has no float.
 use Rattle.std.proofs.Common.{◌≡◌, false, Some, None, refl}
 use Rattle.serde_json.specs.Written.{has_float}
-use Rattle.node_json.proofs.ForCallers.{nodes_no_float, document_no_float}
+use Rattle.node_json.proofs.ForCallers.{numbers_no_float, nodes_no_float, document_no_float}
 use Rattle.workspace_json.specs.declared.refusal.Refusal.{Refusal}
 use Rattle.workspace_json.specs.declared.refusal.Refusal.TheVariants as refusal
 use Rattle.workspace_json.specs.declared.reply.Reply.{Reply}
@@ -29,6 +29,10 @@ reply_no_float (reply.Generator dim name number) = refl
 reply_no_float (reply.Stored dim length name w) = refl
 reply_no_float (reply.Named name w) = refl
 reply_no_float (reply.Slice nodes root) = let listed = nodes_no_float nodes in rw listed refl
+reply_no_float (reply.Normalise arrow factors name nodes source) =
+    let numbers = numbers_no_float factors in
+    let listed = nodes_no_float nodes in
+    rw (numbers, listed) refl
 reply_no_float (reply.Equal value) = refl
 reply_no_float (reply.Stats arrows diagrams generators maps named) = refl
 reply_no_float (reply.Save document) = let saved = document_no_float document in rw saved refl

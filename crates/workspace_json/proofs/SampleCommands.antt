@@ -11,7 +11,7 @@ use Rattle.node_json.specs.NodeForms.{node_at}
 use Rattle.node_json.specs.Reading.{field_fault}
 use Rattle.workspace_json.specs.declared.command.Command.TheVariants as command
 use Rattle.workspace_json.specs.Paths.{number_in, height_in}
-use Rattle.workspace_json.specs.Commands.{bring_row, generator_row, identity_row, boundary_row, slice_row, compose_row, equal_row, drop_row, row_of, command_of, exact_command}
+use Rattle.workspace_json.specs.Commands.{bring_row, generator_row, identity_row, boundary_row, slice_row, compose_row, normalise_row, equal_row, drop_row, row_of, command_of, exact_command}
 
 -- ---- each row
 
@@ -81,6 +81,11 @@ brought = refl
 composed : exact_command (codes "{\"do\":\"compose\",\"name\":\"gf\",\"then\":\"g\",\"first\":\"f\"}") ≡ Ok (command.Compose (codes "gf") (codes "f") (codes "g"))
 unfolding is_utf8 chars serde_json_on_literals number_in height_in node_at bring_row compose_row row_of command_of
 composed = refl
+
+normalised : exact_command (codes "{\"do\":\"normalise\",\"legs\":[\"I\",\"J\"],\"name\":\"N\",\"of\":\"I:target\"}")
+    ≡ Ok (command.Normalise (codes "N") (codes "I:target") (codes "I" ∷ codes "J" ∷ []))
+unfolding is_utf8 chars serde_json_on_literals number_in height_in normalise_row row_of command_of
+normalised = refl
 
 -- ---- each fault
 
@@ -171,3 +176,11 @@ arrow_no_arrow = refl
 then_no_string : exact_command (codes "{\"do\":\"compose\",\"name\":\"c\",\"first\":\"f\",\"then\":0}") ≡ Err (field_fault field.Then)
 unfolding is_utf8 chars serde_json_on_literals number_in height_in node_at bring_row compose_row row_of command_of
 then_no_string = refl
+
+legs_of_numbers : exact_command (codes "{\"do\":\"normalise\",\"legs\":[1],\"name\":\"N\",\"of\":\"f\"}") ≡ Err (field_fault field.Legs)
+unfolding is_utf8 chars serde_json_on_literals number_in height_in normalise_row row_of command_of
+legs_of_numbers = refl
+
+of_before_legs : exact_command (codes "{\"do\":\"normalise\",\"legs\":\"f\",\"name\":\"N\",\"of\":0}") ≡ Err (field_fault field.Of)
+unfolding is_utf8 chars serde_json_on_literals number_in height_in normalise_row row_of command_of
+of_before_legs = refl

@@ -19,11 +19,11 @@ use Rattle.workspace_json.specs.Sessions.{Session, new_session}
 use Rattle.workspace_json.proofs.SampleSteps.{after_all, new_point, replies, session_on_literals}
 
 -- what an answer unfolds beside that
-unfoldable maps_on_literals : ⊤
+unfoldable pub maps_on_literals : ⊤
 unfolding session_on_literals bring_change compose_change tests_between on_arrow
 maps_on_literals = tt
 
-abbrev label : ℕ → ℕ → Label
+abbrev pub label : ℕ → ℕ → Label
 label n d = record { number = n; dim = d }
 
 -- ---- the fault of a map

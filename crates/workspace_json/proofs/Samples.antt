@@ -9,7 +9,7 @@ use Rattle.diagram_terms.specs.declared.place.End.TheVariants as at_end
 use Rattle.diagram_terms.specs.declared.place.Fault.TheVariants as place_fault
 use Rattle.node_json.specs.declared.fault.Field.TheVariants as field
 use Rattle.node_json.specs.declared.fault.FormFault.TheVariants as fault
-use Rattle.workspace_json.specs.declared.reply.Reply.TheVariants.{Look, Generator, Stored, Named, Slice, Equal, Stats, Save, Undo, Redo, Refused}
+use Rattle.workspace_json.specs.declared.reply.Reply.TheVariants.{Look, Generator, Stored, Named, Normalise, Slice, Equal, Stats, Save, Undo, Redo, Refused}
 use Rattle.workspace_json.specs.declared.reply.Word.TheVariants.{Identity, Boundary, Drop}
 use Rattle.workspace_json.specs.declared.refusal.Refusal.TheVariants as refusal
 use Rattle.workspace_json.specs.declared.refusal.Refusal.TheVariants.{Unknown, NoHeight}
@@ -68,6 +68,11 @@ new_boundary = refl
 dropped : text_of_reply (Named (codes "s") Drop) ≡ codes "{\"name\":\"s\",\"ok\":\"drop\"}"
 unfolding serde_json_on_literals
 dropped = refl
+
+normal_form_found : text_of_reply (Normalise 1 (1 ∷ 2 ∷ []) (codes "n") (node.Label (record { number = 3; dim = 0 }) ∷ []) 0)
+    ≡ codes "{\"arrow\":1,\"factors\":[1,2],\"name\":\"n\",\"nodes\":[{\"label\":[3,0]}],\"ok\":\"normalise\",\"source\":0}"
+unfolding digits serde_json_on_literals
+normal_form_found = refl
 
 are_equal : text_of_reply (Equal true) ≡ codes "{\"ok\":\"equal\",\"value\":true}"
 unfolding serde_json_on_literals

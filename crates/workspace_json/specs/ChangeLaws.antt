@@ -4,6 +4,7 @@ use Rattle.diagram_terms.specs.declared.node.Node.{Node}
 use Rattle.workspace_json.specs.Forms.{IsBrought}
 use Rattle.workspace_json.specs.Maps.{IsMap, NamedMap}
 use Rattle.workspace_json.specs.MapSteps.{bring_change, compose_change}
+use Rattle.workspace_json.specs.NormalSteps.{normalise_change}
 use Rattle.workspace_json.specs.Steps.{Changed, new_name}
 use Rattle.workspace_json.specs.Workspaces.{IsWorkspace, Workspace, with_map, without}
 
@@ -24,3 +25,8 @@ BroughtMapsKeepRule = (W : Workspace) (name : List ℕ) (nodes : List Node) (sou
 abbrev pub CompositesKeepRule : Type 0
 CompositesKeepRule = (W : Workspace) (name first second : List ℕ) (c : Changed)
     → IsWorkspace W → compose_change W name first second ≡ Ok c → IsWorkspace c.workspace
+
+-- a normal form
+abbrev pub NormalFormsKeepRule : Type 0
+NormalFormsKeepRule = (W : Workspace) (name of : List ℕ) (legs : List (List ℕ)) (c : Changed)
+    → IsWorkspace W → normalise_change W name of legs ≡ Ok c → IsWorkspace c.workspace

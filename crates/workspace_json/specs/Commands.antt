@@ -51,6 +51,14 @@ heights_of ds = each (λ done d. or_fault (field_fault field.Path) (option_and_t
 abbrev pub heights_at : Data → Result (List Height) FormFault
 heights_at d = list_at (field_fault field.Path) (word_of field.Path) d >>= heights_of
 
+-- the texts that values are, if each is a string
+abbrev pub texts_of : Field → List Data → Result (List (List ℕ)) FormFault
+texts_of f ds = each (λ done d. or_fault (field_fault f) (as_str d)) [] ds
+
+-- the list of strings of a field
+abbrev pub texts_in : Field → Data → Result (List (List ℕ)) FormFault
+texts_in f d = list_at (field_fault f) (word_of f) d >>= texts_of f
+
 -- the nodes of a map, each with its own fault
 abbrev pub nodes_at : Data → Result (List Node) FormFault
 nodes_at d = list_at (field_fault field.Nodes) (word_of field.Nodes) d >>= nodes_in
@@ -128,6 +136,15 @@ compose_row d = do
   second ← text_in field.Then d
   Ok (command.Compose name first second)
 
+-- `{"do":"normalise","name":s,"of":s,"legs":[s,..]}`
+unfoldable pub normalise_row : Data → Result Command FormFault
+normalise_row d = do
+  exact ← keyed (codes "do" ∷ codes "name" ∷ codes "of" ∷ codes "legs" ∷ []) d
+  name ← text_in field.Name d
+  of ← text_in field.Of d
+  legs ← texts_in field.Legs d
+  Ok (command.Normalise name of legs)
+
 -- `{"do":"equal","one":s,"two":s}`
 unfoldable pub equal_row : Data → Result Command FormFault
 equal_row d = do
@@ -160,13 +177,14 @@ row_of word d =
     if bytes_eq word (codes "boundary") then boundary_row d else (
     if bytes_eq word (codes "slice") then slice_row d else (
     if bytes_eq word (codes "compose") then compose_row d else (
+    if bytes_eq word (codes "normalise") then normalise_row d else (
     if bytes_eq word (codes "equal") then equal_row d else (
     if bytes_eq word (codes "drop") then drop_row d else (
     if bytes_eq word (codes "stats") then bare_row command.Stats d else (
     if bytes_eq word (codes "save") then bare_row command.Save d else (
     if bytes_eq word (codes "undo") then bare_row command.Undo d else (
     if bytes_eq word (codes "redo") then bare_row command.Redo d else
-    Err (field_fault field.Do))))))))))))
+    Err (field_fault field.Do)))))))))))))
 
 -- the command that a value is: an object, then its word, then the keys and the fields of the word
 unfoldable pub command_of : Data → Result Command FormFault

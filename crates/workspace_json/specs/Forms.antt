@@ -21,6 +21,7 @@ HasForm (command.Identity name of) = Unit {0}
 HasForm (command.Boundary name of end) = Unit {0}
 HasForm (command.Slice of path) = Unit {0}
 HasForm (command.Compose name first second) = Unit {0}
+HasForm (command.Normalise name of legs) = Unit {0}
 HasForm (command.Equal one two) = Unit {0}
 HasForm (command.Drop name) = Unit {0}
 HasForm command.Stats = Unit {0}

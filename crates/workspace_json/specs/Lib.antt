@@ -8,5 +8,6 @@ pub mod Workspaces
 pub mod Saved
 pub mod Steps
 pub mod MapSteps
+pub mod NormalSteps
 pub mod Sessions
 pub mod ChangeLaws

@@ -14,7 +14,7 @@ use Rattle.node_json.specs.declared.fault.Field.TheVariants as field
 use Rattle.node_json.specs.declared.fault.FormFault.{FormFault}
 use Rattle.node_json.specs.declared.fault.FormFault.TheVariants as fault
 use Rattle.workspace_json.specs.Places.{place_text, fault_place, fault_word}
-use Rattle.node_json.specs.Printing.{whole, nodes_data, document_data}
+use Rattle.node_json.specs.Printing.{whole, numbers_data, nodes_data, document_data}
 
 -- one of the words of the format
 abbrev pub word : List ℕ → Data
@@ -76,6 +76,11 @@ reply_data (reply.Named name w) =
 reply_data (reply.Slice nodes root) =
     object (member (codes "nodes") (nodes_data nodes) (member (codes "ok") (word (codes "slice"))
     (member (codes "root") (whole root) no_members)))
+-- `{"arrow":k,"factors":[..],"name":s,"nodes":[..],"ok":"normalise","source":j}`
+reply_data (reply.Normalise arrow factors name nodes source) =
+    object (member (codes "arrow") (whole arrow) (member (codes "factors") (numbers_data factors)
+    (member (codes "name") (string name) (member (codes "nodes") (nodes_data nodes)
+    (member (codes "ok") (word (codes "normalise")) (member (codes "source") (whole source) no_members))))))
 -- `{"ok":"equal","value":true}`, or `false`
 reply_data (reply.Equal value) =
     object (member (codes "ok") (word (codes "equal")) (member (codes "value") (boolean value) no_members))
@@ -114,6 +119,7 @@ word_of field.Side = codes "side"
 word_of field.Path = codes "path"
 word_of field.First = codes "first"
 word_of field.Then = codes "then"
+word_of field.Legs = codes "legs"
 word_of field.One = codes "one"
 word_of field.Two = codes "two"
 

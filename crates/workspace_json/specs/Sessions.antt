@@ -8,6 +8,7 @@ use Rattle.workspace_json.specs.declared.refusal.Refusal.TheVariants as refusal
 use Rattle.workspace_json.specs.declared.reply.Reply.{Reply}
 use Rattle.workspace_json.specs.declared.reply.Reply.TheVariants as reply
 use Rattle.workspace_json.specs.MapSteps.{bring_change, compose_change}
+use Rattle.workspace_json.specs.NormalSteps.{normalise_change}
 use Rattle.workspace_json.specs.Steps.{Changed, boundary_change, drop_change, equal_answer, generator_change, identity_change, reply_of, save_answer, slice_answer, stats_answer}
 use Rattle.workspace_json.specs.Workspaces.{IsWorkspace, Workspace, empty_workspace}
 
@@ -66,6 +67,7 @@ step s (command.Generator name source target) = change s (generator_change s.pre
 step s (command.Identity name of) = change s (identity_change s.present name of)
 step s (command.Boundary name of end) = change s (boundary_change s.present name of end)
 step s (command.Compose name first second) = change s (compose_change s.present name first second)
+step s (command.Normalise name of legs) = change s (normalise_change s.present name of legs)
 step s (command.Drop name) = change s (drop_change s.present name)
 step s (command.Slice of path) = read s (slice_answer s.present of path)
 step s (command.Equal one two) = read s (equal_answer s.present one two)

@@ -1,10 +1,11 @@
-ghost use Rattle.workspace_json.specs.ChangeLaws.{AddedMapsKeepRule, BroughtMapsKeepRule, CompositesKeepRule, DropsKeepRule};
+ghost use Rattle.workspace_json.specs.ChangeLaws.{AddedMapsKeepRule, BroughtMapsKeepRule, CompositesKeepRule, DropsKeepRule, NormalFormsKeepRule};
 
-/// A map that is added under a new name, brought or composed, and what is dropped, leave a workspace
-/// that meets the rule.
+/// A map that is added under a new name, brought, composed or taken from a normal form, and what is
+/// dropped, leave a workspace that meets the rule.
 pub fn changes_keep_the_rule()
     ensures added { AddedMapsKeepRule }
     ensures brought { BroughtMapsKeepRule }
     ensures composed { CompositesKeepRule }
+    ensures normalised { NormalFormsKeepRule }
     ensures dropped { DropsKeepRule }
 {}

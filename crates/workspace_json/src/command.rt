@@ -39,6 +39,12 @@ pub enum Command {
         first: Text,
         then_: Text,
     },
+    /// The map from the normal form of a diagram relative to some maps into it, under a name.
+    Normalise {
+        name: Text,
+        of: Text,
+        legs: Items<Text>,
+    },
     /// Whether two diagrams are the same.
     Equal {
         one: Text,

@@ -3,7 +3,7 @@ ghost use Rattle.serde_json.specs.View.{view};
 ghost use Rattle.diagram_terms.specs.declared.node.Node.{Node};
 ghost use Rattle.diagram_terms.specs.Nodes.{sorts_of};
 ghost use Rattle.node_json.specs.Step.{Gives, GivesExactly};
-ghost use Rattle.workspace_json.specs.Commands.{text_in, keyed, side_of, side_in, heights_of, heights_at, nodes_at, diagram_in, arrow_in, bring_row, point_row, cell_row, generator_row, identity_row, boundary_row, slice_row, compose_row, equal_row, drop_row, bare_row, row_of, command_of, exact_command};
+ghost use Rattle.workspace_json.specs.Commands.{text_in, keyed, side_of, side_in, heights_of, heights_at, texts_of, texts_in, nodes_at, diagram_in, arrow_in, bring_row, point_row, cell_row, generator_row, identity_row, boundary_row, slice_row, compose_row, normalise_row, equal_row, drop_row, bare_row, row_of, command_of, exact_command};
 ghost use Rattle.workspace_json.specs.Forms.{HasForm};
 
 use crate::command::Command;
@@ -74,6 +74,27 @@ fn heights_at(alloc: Global, value: &Value) -> Result<Items<Height>, FormFault>
 {
     let list = list_at(field_fault(Field::Path), value, field_word(Field::Path))?;
     heights_of(alloc, list)
+}
+
+fn texts_of(alloc: Global, field: Field, list: &[Value]) -> Result<Items<Text>, FormFault>
+    ensures { Gives (λ texts. texts) result (texts_of field (map view list.now)) }
+{
+    let mut texts = Items::new(alloc);
+    for value in list {
+        let Some(text) = value.as_str() else {
+            return Err(field_fault(field));
+        };
+        texts.push(Text::from_str(alloc, text)?)?;
+    }
+    Ok(texts)
+}
+
+/// The strings of a list at a field.
+fn texts_in(alloc: Global, field: Field, value: &Value) -> Result<Items<Text>, FormFault>
+    ensures { Gives (λ texts. texts) result (texts_in field (view value.now)) }
+{
+    let list = list_at(field_fault(field), value, field_word(field))?;
+    texts_of(alloc, field, list)
 }
 
 fn nodes_at(alloc: Global, value: &Value) -> Result<Nodes, FormFault>
@@ -209,6 +230,18 @@ fn compose_row(alloc: Global, value: &Value) -> Result<Command, FormFault>
     })
 }
 
+#[tactic(auto, unfolding(crate::specs::Commands::normalise_row))]
+fn normalise_row(alloc: Global, value: &Value) -> Result<Command, FormFault>
+    ensures { Gives (λ command. command) result (normalise_row (view value.now)) }
+{
+    keyed(value, &["do", "name", "of", "legs"])?;
+    Ok(Command::Normalise {
+        name: text_in(alloc, Field::Name, value)?,
+        of: text_in(alloc, Field::Of, value)?,
+        legs: texts_in(alloc, Field::Legs, value)?,
+    })
+}
+
 #[tactic(auto, unfolding(crate::specs::Commands::equal_row))]
 fn equal_row(alloc: Global, value: &Value) -> Result<Command, FormFault>
     ensures { Gives (λ command. command) result (equal_row (view value.now)) }
@@ -249,6 +282,7 @@ fn row_of(alloc: Global, word: &str, value: &Value) -> Result<Command, FormFault
         "boundary" => boundary_row(alloc, value),
         "slice" => slice_row(alloc, value),
         "compose" => compose_row(alloc, value),
+        "normalise" => normalise_row(alloc, value),
         "equal" => equal_row(alloc, value),
         "drop" => drop_row(alloc, value),
         "stats" => bare_row(Command::Stats, value),

@@ -46,6 +46,15 @@ pub enum Reply {
         nodes: Items<Node>,
         root: usize,
     },
+    /// A normal form: the distinct subtrees of its diagram, of the arrow from it and of the factors of
+    /// the legs as nodes, and the places of these among them.
+    Normalise {
+        arrow: usize,
+        factors: Items<usize>,
+        name: Text,
+        nodes: Items<Node>,
+        source: usize,
+    },
     /// Whether two diagrams are the same.
     Equal {
         value: bool,

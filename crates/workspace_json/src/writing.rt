@@ -6,7 +6,7 @@ use crate::refusal::Refusal;
 use crate::reply::{Reply, Word};
 use crate::texts::{fault_place, fault_word, place_text};
 use diagram_terms::{Fault, Node, Place, Text};
-use node_json::{Field, FormFault, document_value, nodes_value};
+use node_json::{Field, FormFault, document_value, nodes_value, numbers_value};
 use serde_json::{Value, json};
 use std::alloc::{AllocError, Global};
 
@@ -39,6 +39,23 @@ fn slice_value(alloc: Global, nodes: &[Node], root: usize) -> Result<Value, Allo
 {
     json!(in alloc; {
         "nodes": nodes_value(alloc, nodes)?, "ok": "slice", "root": root as u64
+    })
+}
+
+fn normal_value(
+    alloc: Global,
+    arrow: usize,
+    factors: &[usize],
+    name: &Text,
+    nodes: &[Node],
+    source: usize,
+) -> Result<Value, AllocError>
+    ensures { IfOk result (λ value. view value
+        ≡ reply_data (Reply.Normalise arrow factors.now name.now nodes.now source)) }
+{
+    json!(in alloc; {
+        "arrow": arrow as u64, "factors": numbers_value(alloc, factors)?, "name": name.as_str(),
+        "nodes": nodes_value(alloc, nodes)?, "ok": "normalise", "source": source as u64
     })
 }
 
@@ -155,6 +172,20 @@ fn reply_value(alloc: Global, reply: &Reply) -> Result<Value, AllocError>
         Reply::Named { name, word } =>
             json!(in alloc; {"name": name.as_str(), "ok": command_word(*word)}),
         Reply::Slice { nodes, root } => slice_value(alloc, nodes.as_slice(), *root),
+        Reply::Normalise {
+            arrow,
+            factors,
+            name,
+            nodes,
+            source,
+        } => normal_value(
+            alloc,
+            *arrow,
+            factors.as_slice(),
+            name,
+            nodes.as_slice(),
+            *source,
+        ),
         Reply::Equal { value } => json!(in alloc; {"ok": "equal", "value": *value}),
         Reply::Stats {
             arrows,
@@ -201,6 +232,7 @@ pub(crate) fn field_word(field: Field) -> &'static str
         Field::Path => "path",
         Field::First => "first",
         Field::Then => "then",
+        Field::Legs => "legs",
         Field::One => "one",
         Field::Two => "two",
     }

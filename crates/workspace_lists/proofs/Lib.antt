@@ -3,3 +3,4 @@ pub mod DocumentEntries
 pub mod ForCallers
 pub mod HeldRoots
 pub mod MapEntries
+pub mod NormalRoots

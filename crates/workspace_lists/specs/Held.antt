@@ -1,10 +1,12 @@
 -- The workspace of trees that a workspace over a store stands for.
 use Rattle.std.specs.Prelude.{◌≡◌, ℕ, List, map}
 use Rattle.std.specs.List.{All}
+use Rattle.diagram_terms.specs.Nodes.{picked}
 use Rattle.diagram_terms.specs.Typing.{generator_dim}
 use Rattle.hashcons.specs.Contents.{Contents, IsArrowOf, IsDiagramOf, arrow_at, diagram_at}
 use Rattle.typecheck.specs.Signatures.{IsBoundaryOf, generator_in}
 use Rattle.workspace_json.specs.Maps.{NamedMap as NamedTrees}
+use Rattle.workspace_json.specs.NormalSteps.{NormalTrees}
 use Rattle.workspace_json.specs.Workspaces.{NamedDiagram, NamedGenerator}
 use Rattle.workspace_json.specs.Workspaces as trees
 use Rattle.workspace_lists.specs.declared.workspace.Generator.{Generator}
@@ -25,6 +27,10 @@ map_called c name m = record { name = name; source = diagram_at c m.source; targ
 
 abbrev pub map_over : Contents → NamedMap → NamedTrees
 map_over c m = map_called c m.name m.map
+
+-- a normal form with the arrow from it, and the factors of some legs
+abbrev pub normal_over : Contents → ℕ → ℕ → List ℕ → NormalTrees
+normal_over c source arrow factors = record { source = diagram_at c source; arrow = arrow_at c arrow; factors = picked c.arrows factors }
 
 -- generators, diagrams and maps in their order, each with its trees
 abbrev pub generators_over : Contents → List Generator → List NamedGenerator

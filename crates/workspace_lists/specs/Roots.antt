@@ -38,6 +38,10 @@ top_ids w = end_ids w.generators.items ++ diagram_ids w.diagrams.items
 abbrev pub root_ids : Workspace → List AnyId
 root_ids w = top_ids w ++ part_ids w.maps.items
 
+-- those of a normal form, of the arrow from it and of some factors
+abbrev pub normal_ids : ℕ → ℕ → List ℕ → List AnyId
+normal_ids source arrow factors = id.Diagram source ∷ id.Arrow arrow ∷ map (λ a. id.Arrow a) factors
+
 -- the entries, where each id has a place
 abbrev pub ends_at : (AnyId → ℕ) → Option (ℕ × ℕ) → Option (ℕ × ℕ)
 ends_at place None = None

@@ -10,6 +10,6 @@ mod workspace;
 
 pub use counts::Stats;
 pub use names::{Meaning, Names};
-pub use printing::printed;
+pub use printing::{printed, printed_normal};
 pub use saved::{document, stats};
 pub use workspace::{Generator, Named, NamedMap, Workspace};

@@ -68,6 +68,20 @@ fn writes_answers(rt: HostRuntime) -> Result<(), Fail> {
         text.as_slice()
             == b"{\"nodes\":[{\"label\":[3,0]},{\"bwds\":[],\"fwds\":[],\"regs\":[0],\"sings\":[]}],\"ok\":\"slice\",\"root\":1}".as_slice()
     );
+    let mut nodes = Items::new(alloc);
+    nodes.push(Node::Label(Label { number: 3, dim: 0 }))?;
+    let normal = Reply::Normalise {
+        arrow: 2,
+        factors: Items::from_slice(alloc, &[2, 10])?,
+        name: Text::from_str(alloc, "n")?,
+        nodes,
+        source: 0,
+    };
+    let text = reply_text(alloc, &normal)?;
+    assert!(rt;
+        text.as_slice()
+            == b"{\"arrow\":2,\"factors\":[2,10],\"name\":\"n\",\"nodes\":[{\"label\":[3,0]}],\"ok\":\"normalise\",\"source\":0}".as_slice()
+    );
     let name = Text::from_str(alloc, "a\"")?;
     let text = reply_text(alloc, &Reply::Refused(Refusal::Unknown { name }))?;
     assert!(rt; text.as_slice() == b"{\"name\":\"a\\\"\",\"refused\":\"Unknown\"}".as_slice());
@@ -283,6 +297,14 @@ fn reads_commands(rt: HostRuntime) -> Result<(), Fail> {
             "Compose { name: Text { text: \"gf\" }, first: Text { text: \"f\" }, then_: Text { text: \"g\" } }",
         ),
         (
+            "{\"do\":\"normalise\",\"legs\":[],\"name\":\"n\",\"of\":\"f:source\"}",
+            "Normalise { name: Text { text: \"n\" }, of: Text { text: \"f:source\" }, legs: Items { items: [] } }",
+        ),
+        (
+            "{\"do\":\"normalise\",\"of\":\"f\",\"name\":\"n\",\"legs\":[\"L\",\"\\u004d\"]}",
+            "Normalise { name: Text { text: \"n\" }, of: Text { text: \"f\" }, legs: Items { items: [Text { text: \"L\" }, Text { text: \"M\" }] } }",
+        ),
+        (
             "{\"do\":\"drop\",\"name\":\"a b\"}",
             "Drop { name: Text { text: \"a b\" } }",
         ),
@@ -418,6 +440,22 @@ fn refuses_parts_of_commands(rt: HostRuntime) -> Result<(), Fail> {
         (
             "{\"do\":\"compose\",\"name\":\"c\",\"first\":\"f\",\"then\":2}",
             field(Field::Then),
+        ),
+        (
+            "{\"do\":\"normalise\",\"name\":\"n\",\"of\":\"f\"}",
+            field(Field::Command),
+        ),
+        (
+            "{\"do\":\"normalise\",\"name\":\"n\",\"of\":1,\"legs\":1}",
+            field(Field::Of),
+        ),
+        (
+            "{\"do\":\"normalise\",\"name\":\"n\",\"of\":\"f\",\"legs\":\"L\"}",
+            field(Field::Legs),
+        ),
+        (
+            "{\"do\":\"normalise\",\"name\":\"n\",\"of\":\"f\",\"legs\":[\"L\",0]}",
+            field(Field::Legs),
         ),
     ] {
         let fault = read_command(alloc, line.as_bytes()).err();

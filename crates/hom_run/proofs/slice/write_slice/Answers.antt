@@ -7,6 +7,3 @@ returns-in_err-heights-clause-err g c = on_err _ (not_begun _ _)
 
 pub returns-in_err-reply-clause-err : goal.returns-in_err-reply-clause-err
 returns-in_err-reply-clause-err g c = on_err _ (not_begun _ _)
-
-pub returns-in_err-reply_text-clause-err : goal.returns-in_err-reply_text-clause-err
-returns-in_err-reply_text-clause-err g c = on_err _ (not_begun _ _)

@@ -18,6 +18,10 @@ pub returns-in-Compose-clause-comes : goal.returns-in-Compose-clause-comes
 unfolding step
 returns-in-Compose-clause-comes c = rw (c.in-Compose.is) (c.compose_command.ensures.comes)
 
+pub returns-in-Normalise-clause-comes : goal.returns-in-Normalise-clause-comes
+unfolding step
+returns-in-Normalise-clause-comes c = rw (c.in-Normalise.is, sym c.as_slice-in-Normalise.ensures) (c.normalise_command.ensures.comes)
+
 pub returns-in-Generator-clause-comes : goal.returns-in-Generator-clause-comes
 unfolding step
 returns-in-Generator-clause-comes c = rw (c.in-Generator.is) (c.generator_command.ensures.comes)

@@ -33,3 +33,6 @@ returns-in-Fault-clause-exact c =
 
 pub returns-in-Fault-clause-grows : goal.returns-in-Fault-clause-grows
 returns-in-Fault-clause-grows c = Grows-trans _ _ _ (Grows-trans _ _ _ c.end_fault.ensures.grows c.end_fault-2.ensures.grows) c.squares.ensures.grows
+
+pub returns-in-Valid-clause-valid : goal.returns-in-Valid-clause-valid
+returns-in-Valid-clause-valid c = λ none. c.in_ok-squares.ensures.yes.0 c.in-Valid.is

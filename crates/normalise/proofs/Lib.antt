@@ -1,0 +1,10 @@
+pub mod SliceTrees
+pub mod LeastForms
+pub mod FormParts
+pub mod FormsInStore
+pub mod LeftSteps
+pub mod AssembledForms
+pub mod FormSteps
+pub mod AnsweredMaps
+pub mod SliceSteps
+pub mod WaySteps
