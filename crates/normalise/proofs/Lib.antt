@@ -1,0 +1,5 @@
+pub mod SliceTrees
+pub mod LeastForms
+pub mod FormParts
+pub mod FormsInStore
+pub mod LeftSteps

@@ -1,0 +1,4 @@
+pub mod LegSlices
+pub mod FormTrees
+pub mod StoreForms
+pub mod NormalMaps
