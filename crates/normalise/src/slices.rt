@@ -1,7 +1,7 @@
 ghost use Rattle.std.specs.Prelude.{◌≡◌, ◌<◌, ◌≤◌, IfOk, length};
 ghost use Rattle.diagram_terms.specs.Dimension.{dimension_of};
 ghost use Rattle.diagram_terms.specs.Shape.{reg_at, sing_at};
-ghost use Rattle.diagram_terms.specs.Tree.{sings};
+ghost use Rattle.diagram_terms.specs.Tree.{heights, sings};
 ghost use Rattle.hashcons.specs.Contents.{arrow_at, diagram_at, leg_of};
 ghost use Rattle.hashcons.specs.NoteTables.{key_of};
 ghost use Rattle.zigzag_maps.specs.Found.{IsValidMap};
@@ -73,10 +73,27 @@ fn slices_of(
 {
     let mut slices = SmallVec::new(alloc);
     for i in 0..store.source_len(leg.arrow) {
-        if store.height(leg.arrow, i) == k {
-            let slice = sing_slice(store, leg, i);
-            slices.push((slice.source, slice.arrow))?;
-        }
+        push_slice(store, &mut slices, &leg, k, i)?;
     }
     Ok(slices)
+}
+
+/// The slice at the height `i` too, where it goes to `k`.
+fn push_slice(
+    store: &Store,
+    slices: &mut SmallVec<(DiagramId, ArrowId), 4>,
+    leg: &Map,
+    k: usize,
+    i: usize,
+) -> Result<(), AllocError>
+    requires valid { IsValidMap store.now leg.now }
+    requires above { 0 < dimension_of (arrow_at store.now leg.now.arrow) }
+    requires within { i < length (heights (arrow_at store.now leg.now.arrow)) }
+{
+    if store.height(leg.arrow, i) != k {
+        return Ok(());
+    }
+    let slice = sing_slice(store, *leg, i);
+    slices.push((slice.source, slice.arrow))?;
+    Ok(())
 }
