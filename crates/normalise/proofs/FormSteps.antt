@@ -1,6 +1,7 @@
 -- The steps of the recursion, from a key to those of its slices and back.
 use Rattle.std.proofs.Common.{◌≡◌, ℕ, suc, ◌+◌, ◌-◌, ◌<◌, ◌≤◌, List, ◌∷◌, [], ◌++◌, length, get_or, map, nat_lt, Result, Ok, Err, IfOk, sym, ap, subst, ◌∙◌, refl, arith}
-use Rattle.std.proofs.lemmas.List.{length-append, length-map, get_or_append_left, get_or_push}
+use Rattle.std.proofs.lemmas.List.{length-append, length-map, get_or-append-add}
+use Rattle.std.proofs.Math.Seq.{get_or-append_seam}
 use Rattle.diagram_terms.specs.Dimension.{dimension_of, IsDiagramTree}
 use Rattle.diagram_terms.specs.Nodes.{picked}
 use Rattle.diagram_terms.specs.Shape.{reg_at, sing_at}
@@ -48,3 +49,76 @@ module _ (old mid : Contents) (k : Key) (g : Grows old mid) (h : IsKeyOf old k) 
   makes_leg_before new r m =
       let n = key_before old mid k g h (λ t gs. MakesLeg mid new (normal_tree t gs) r) m in
       record { grows = Grows-trans old mid new g m.grows; leg = n.leg }
+
+-- ---- a key with these trees
+
+pub with_form : (c : Contents) (t : Tree) (gs : List TreeLeg) (k : Key) → IsKeyWith c t gs k → (x : ℕ × ℕ)
+    → IsLegWith c (normal_tree (diagram_at c k.target) (legs_of c k.legs)) x → IsLegWith c (normal_tree t gs) x
+with_form c t gs k h x f =
+    subst (λ (u : Tree). IsLegWith c (normal_tree u gs) x) h.tree
+    (subst (λ (hs : List TreeLeg). IsLegWith c (normal_tree (diagram_at c k.target) hs) x) h.legs.trees f)
+
+-- the slices have one dimension less
+module _ (c : Contents) (k : Key) (h : IsKeyOf c k) (n : ℕ) (dim : n ≡ dimension_of (diagram_at c k.target)) (above : 0 < n) where
+  shape : IsDiagramTree (diagram_at c k.target)
+  shape = valid_shape (diagram_at c k.target) h.target.valid
+
+  pub reg_dim : (j : ℕ) → j ≤ length (sings (diagram_at c k.target)) → (u : Tree) → u ≡ reg_at (diagram_at c k.target) j → n - 1 ≡ dimension_of u
+  reg_dim j l u e =
+      let m = length-regs (diagram_at c k.target) shape (omega arith) in
+      let d = dimension_of-reg_at (diagram_at c k.target) j shape (omega arith) in
+      let q = ap dimension_of e in
+      omega arith
+
+  pub sing_dim : (i : ℕ) → i < length (sings (diagram_at c k.target)) → (u : Tree) → u ≡ sing_at (diagram_at c k.target) i → n - 1 ≡ dimension_of u
+  sing_dim i l u e =
+      let d = dimension_of-sing_at (diagram_at c k.target) i shape l in
+      let q = ap dimension_of e in
+      omega arith
+
+-- ---- one form more
+
+module _ (old new : Contents) (t : Tree) (gs : List TreeLeg) (n : ℕ) (x : ℕ × ℕ) (g : Grows old new) (one : IsLegWith new (reg_normal t gs n) x) where
+  pub sources_more : (ids : List ℕ) → Gathers old.diagrams ids n (λ j. (reg_normal t gs j).source)
+      → Gathers new.diagrams (ids ++ x.0 ∷ []) (n + 1) (λ j. (reg_normal t gs j).source)
+  sources_more ids h = gathers-diagram_more old new ids n x.0 (λ j. (reg_normal t gs j).source) h g one.of_store.source (ap (λ (u : TreeLeg). u.source) one.trees)
+
+  pub arrows_more : (ids : List ℕ) → Gathers old.arrows ids n (λ j. (reg_normal t gs j).arrow)
+      → Gathers new.arrows (ids ++ x.1 ∷ []) (n + 1) (λ j. (reg_normal t gs j).arrow)
+  arrows_more ids h = gathers-arrow_more old new ids n x.1 (λ j. (reg_normal t gs j).arrow) h g one.of_store.arrow (ap (λ (u : TreeLeg). u.arrow) one.trees)
+
+-- ---- the level of a singular slice
+
+module _ (t : Tree) (gs : List TreeLeg) (k : ℕ) where
+  before_at : tree_leg_at (way_trees t gs k) (length (slice_trees_over gs k)) ≡ fwd_way_tree t gs k
+  before_at = get_or-append_seam (slice_trees_over gs k) (fwd_way_tree t gs k) (bwd_way_tree t gs k ∷ []) (record { source = nil; arrow = nil })
+
+  behind_at : tree_leg_at (way_trees t gs k) (length (slice_trees_over gs k) + 1) ≡ bwd_way_tree t gs k
+  behind_at = get_or-append-add (slice_trees_over gs k) (fwd_way_tree t gs k ∷ bwd_way_tree t gs k ∷ []) 1 (record { source = nil; arrow = nil })
+
+  module _ (c : Contents) (s : Key) (h : IsKeyWith c (sing_at t k) (way_trees t gs k) s) where
+    pub ways_len : length s.legs ≡ length (slice_trees_over gs k) + 2
+    ways_len =
+        sym (length-map s.legs (leg_of c)) ∙ ap length h.legs.trees
+        ∙ length-append (slice_trees_over gs k) (fwd_way_tree t gs k ∷ bwd_way_tree t gs k ∷ [])
+
+    module _ (new : Contents) (n last : ℕ) (e : n ≡ length (slice_trees_over gs k)) (m : last ≡ n + 1) where
+      abbrev LevelBy : Tree → List TreeLeg → ℕ → ℕ → Level → Type 0
+      LevelBy u hs i j x = IsLevelWith new (normal_tree u hs) (factor_tree (normal_tree u hs).arrow (tree_leg_at hs i).arrow)
+          (factor_tree (normal_tree u hs).arrow (tree_leg_at hs j).arrow) (nat_lt 0 i) x
+
+      level_told : (x : Level) → LevelBy (diagram_at c s.target) (legs_of c s.legs) n last x → IsLevelOf new t gs k x
+      level_told x v =
+          let a = subst (λ (u : Tree). LevelBy u (legs_of c s.legs) n last x) h.tree v in
+          let b = subst (λ (hs : List TreeLeg). LevelBy (sing_at t k) hs n last x) h.legs.trees a in
+          let d = subst (λ (j : ℕ). LevelBy (sing_at t k) (way_trees t gs k) n j x) m b in
+          let i = subst (λ (i : ℕ). LevelBy (sing_at t k) (way_trees t gs k) i (i + 1) x) e d in
+          let p = before_at in
+          let q = behind_at in
+          subst (λ (f : TreeLeg). IsLevelWith new (sing_normal t gs k) (factor_tree (sing_normal t gs k).arrow f.arrow) (bwd_tree t gs k) (nat_lt 0 (length (slice_trees_over gs k))) x) p
+          (subst (λ (b : TreeLeg). IsLevelWith new (sing_normal t gs k) (factor_tree (sing_normal t gs k).arrow (tree_leg_at (way_trees t gs k) (length (slice_trees_over gs k))).arrow)
+          (factor_tree (sing_normal t gs k).arrow b.arrow) (nat_lt 0 (length (slice_trees_over gs k))) x) q i)
+
+      pub levels_told : {E : Type 0} (r : Result Level E) → IfOk r (LevelBy (diagram_at c s.target) (legs_of c s.legs) n last) → IfOk r (IsLevelOf new t gs k)
+      levels_told (Ok x) v = level_told x v
+      levels_told (Err x) v = v
