@@ -5,3 +5,4 @@ pub mod FormsInStore
 pub mod LeftSteps
 pub mod AssembledForms
 pub mod FormSteps
+pub mod AnsweredMaps
