@@ -7,7 +7,6 @@ use Rattle.diagram_terms.proofs.Dimensions.{diagram_tree, arrow_tree}
 use Rattle.hashcons.specs.Contents.{Contents, Grows, Key, IsDiagramOf, IsArrowOf, diagram_at, arrow_at}
 use Rattle.hashcons.specs.Nodes.{AreArrowChildren, AreDiagramChildren}
 use Rattle.hashcons.specs.NormalTrees.{TreeLeg}
-use Rattle.hashcons.proofs.Growth.{Grows-trans}
 use Rattle.normalise.specs.declared.parts.Forms.{Forms}
 use Rattle.normalise.specs.declared.left.Left.{Left}
 use Rattle.normalise.specs.FormTrees.{normal_tree, assembled_tree}

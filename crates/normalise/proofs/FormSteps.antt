@@ -1,26 +1,24 @@
 -- The steps of the recursion, from a key to those of its slices and back.
-use Rattle.std.proofs.Common.{◌≡◌, ℕ, suc, ◌+◌, ◌-◌, ◌<◌, ◌≤◌, List, ◌∷◌, [], ◌++◌, length, get_or, map, nat_lt, Result, Ok, Err, IfOk, sym, ap, subst, ◌∙◌, refl, arith}
+use Rattle.std.proofs.Common.{◌≡◌, ℕ, suc, ◌+◌, ◌-◌, ◌<◌, ◌≤◌, List, ◌∷◌, [], ◌++◌, length, nat_lt, Result, Ok, Err, IfOk, sym, ap, subst, ◌∙◌, arith}
 use Rattle.std.proofs.lemmas.List.{length-append, length-map, get_or-append-add}
 use Rattle.std.proofs.Math.Seq.{get_or-append_seam}
 use Rattle.diagram_terms.specs.Dimension.{dimension_of, IsDiagramTree}
-use Rattle.diagram_terms.specs.Nodes.{picked}
 use Rattle.diagram_terms.specs.Shape.{reg_at, sing_at}
-use Rattle.diagram_terms.specs.Tree.{Tree, nil, regs, sings}
+use Rattle.diagram_terms.specs.Tree.{Tree, nil, sings}
 use Rattle.diagram_terms.proofs.Dimensions.{dimension_of-reg_at, dimension_of-sing_at, length-regs}
-use Rattle.hashcons.specs.Contents.{Contents, Grows, Key, IsStore, diagram_at, leg_of}
+use Rattle.hashcons.specs.Contents.{Contents, Grows, Key, diagram_at, leg_of}
 use Rattle.hashcons.specs.Gathers.{Gathers}
 use Rattle.hashcons.specs.NormalTrees.{TreeLeg, tree_leg_at}
-use Rattle.hashcons.proofs.Growth.{Grows-trans, gathers-none, gathers-diagram_more, gathers-arrow_more}
+use Rattle.hashcons.proofs.Growth.{Grows-trans, gathers-diagram_more, gathers-arrow_more}
 use Rattle.zigzag_maps.proofs.ValidArrows.{valid_shape}
 use Rattle.degeneracy.specs.FactorTrees.{factor_tree}
 use Rattle.normalise.specs.declared.parts.Forms.{Forms}
 use Rattle.normalise.specs.declared.left.Left.{Left}
 use Rattle.normalise.specs.declared.level.Level.{Level}
-use Rattle.normalise.specs.LegSlices.{regular_slice_trees, slice_trees_over}
-use Rattle.normalise.specs.FormTrees.{normal_tree, reg_normal, sing_normal, fwd_way_tree, bwd_way_tree, way_trees, fwd_tree, bwd_tree}
-use Rattle.normalise.specs.StoreForms.{legs_of, IsKeyOf, IsKeyWith, IsLegWith, MakesLeg, MakesForms, MakesLeft, MakesLevel, AreForms, IsLeftOf, IsLevelWith, IsLevelOf}
-use Rattle.normalise.proofs.FormsInStore.{key-grows, key_with-grows, key_of_with, key_before, key_after, leg_with-grows}
-use Rattle.normalise.proofs.LeftSteps.{forms-grow, left-grows}
+use Rattle.normalise.specs.LegSlices.{slice_trees_over}
+use Rattle.normalise.specs.FormTrees.{normal_tree, reg_normal, sing_normal, fwd_way_tree, bwd_way_tree, way_trees, bwd_tree}
+use Rattle.normalise.specs.StoreForms.{legs_of, IsKeyOf, IsKeyWith, IsLegWith, MakesLeg, AreForms, IsLeftOf, IsLevelWith, IsLevelOf}
+use Rattle.normalise.proofs.FormsInStore.{key_before, key_after}
 
 -- ---- the trees of a key, in a later store
 

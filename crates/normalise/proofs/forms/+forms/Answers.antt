@@ -1,7 +1,6 @@
-use Rattle.std.proofs.Common.{◌≡◌, ℕ, suc, ◌<◌, ◌≤◌, ◌+◌, ◌-◌, List, ◌∷◌, [], ◌++◌, length, get_or, refl, rules, sym, ap, subst, ◌∙◌, arith}
+use Rattle.std.proofs.Common.{ℕ, suc, ◌<◌, ◌+◌, ◌-◌, List, length, refl, rules, sym, ap, subst, ◌∙◌, arith}
 use Rattle.diagram_terms.specs.Tree.{Tree, sings}
 use Rattle.hashcons.specs.Contents.{diagram_at}
-use Rattle.hashcons.specs.Gathers.{Gathers}
 use Rattle.hashcons.specs.NormalTrees.{TreeLeg}
 use Rattle.hashcons.specs.NoteTables.{key_of}
 use Rattle.hashcons.proofs.Growth.{Grows-trans}
@@ -31,8 +30,16 @@ form_anew-kept_levels-requires t c =
     let m = c.in_ok-forms.ensures in
     let g = m.grows in (
       search rules,
-      (key-grows old mid key g c.requires.key, (dim_after old mid key g c.requires.key c.args.dim c.requires.dim, (omega arith,
-      (forms_after old mid key g c.requires.key c.in_ok-forms.forms m.forms, g.store c.requires.store)))),
+      (
+        key-grows old mid key g c.requires.key,
+        (
+          dim_after old mid key g c.requires.key c.args.dim c.requires.dim,
+          (
+            omega arith,
+            (forms_after old mid key g c.requires.key c.in_ok-forms.forms m.forms, g.store c.requires.store),
+          ),
+        ),
+      ),
     )
 
 pub form_anew-assembled-requires-clause-key : goal.form_anew-assembled-requires-clause-key
@@ -109,8 +116,16 @@ regular_forms-regular_form-requires-in-loop-k t c =
     let n = len_after old now key g c.requires.key (length (sings (diagram_at old key.target))) refl in
     let m = len_after old c.regular_form.new.store key c.in_ok-source.ensures.grows c.requires.key (length (sings (diagram_at old key.target))) refl in (
       search rules,
-      (key-grows old now key g c.requires.key, (dim_after old now key g c.requires.key c.args.dim c.requires.dim, (omega arith,
-      (omega arith, g.store c.requires.store)))),
+      (
+        key-grows old now key g c.requires.key,
+        (
+          dim_after old now key g c.requires.key c.args.dim c.requires.dim,
+          (
+            omega arith,
+            (omega arith, g.store c.requires.store),
+          ),
+        ),
+      ),
     )
 
 pub regular_forms-loop-k-preserved : goal.regular_forms-loop-k-preserved
@@ -140,8 +155,22 @@ kept_levels-singular_form-requires t c =
     let g = c.loop-k.invariant.grows in
     let n = len_after old now key g c.requires.key (length (sings (diagram_at old key.target))) refl in (
       search rules,
-      (key-grows old now key g c.requires.key, (dim_after old now key g c.requires.key c.args.dim c.requires.dim, (omega arith, (omega arith, (omega arith,
-      (forms_after old now key g c.requires.key c.args.forms.now (forms-grow old now _ _ _ c.args.forms.now g c.requires.forms), g.store c.requires.store)))))),
+      (
+        key-grows old now key g c.requires.key,
+        (
+          dim_after old now key g c.requires.key c.args.dim c.requires.dim,
+          (
+            omega arith,
+            (
+              omega arith,
+              (
+                omega arith,
+                (forms_after old now key g c.requires.key c.args.forms.now (forms-grow old now _ _ _ c.args.forms.now g c.requires.forms), g.store c.requires.store),
+              ),
+            ),
+          ),
+        ),
+      ),
     )
 
 pub kept_levels-loop-k-preserved : goal.kept_levels-loop-k-preserved

@@ -1,4 +1,4 @@
-use Rattle.std.proofs.Common.{◌≡◌, ◌+◌, ◌*◌}
+use Rattle.std.proofs.Common.{◌+◌, ◌*◌}
 use Rattle.hashcons.specs.Contents.{Grows, diagram_at}
 use Rattle.hashcons.specs.Gathers.{Gathers}
 use Rattle.normalise.specs.FormTrees.{reg_normal}
