@@ -15,7 +15,7 @@ use Rattle.hashcons.specs.Gathers.{Gathers}
 use Rattle.hashcons.specs.NormalTrees.{TreeLeg}
 use Rattle.hashcons.specs.Nodes.{AreArrowChildren, AreDiagramChildren}
 use Rattle.hashcons.proofs.Growth.{gathers-below, gathers-picked, gathers-diagrams_grow, gathers-arrows_grow}
-use Rattle.hashcons.proofs.TableTrees.{length-picked, AreBelow-more, picked-agree}
+use Rattle.hashcons.proofs.TableTrees.{picked-agree}
 use Rattle.normalise.specs.declared.parts.Forms.{Forms}
 use Rattle.normalise.specs.declared.left.Left.{Left}
 use Rattle.normalise.specs.declared.level.Level.{Level}

@@ -3,3 +3,4 @@ pub mod LeastForms
 pub mod FormParts
 pub mod FormsInStore
 pub mod LeftSteps
+pub mod SliceSteps
