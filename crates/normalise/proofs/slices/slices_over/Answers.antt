@@ -29,7 +29,7 @@ loop-i-preserved c =
     let k = c.args.k in
     let found = c.in_ok-found.found.items in
     let here = subst (λ (m : Map). AreLegsWith now (sing_at (diagram_at now m.target) k) (slices_to k (leg_of now (as_leg m))) found) c.leg_map-leg.ensures c.in_ok-found.ensures in
-    rw (c.in_ok-extend_from_slice.ensures.items, c.as_slice.ensures.value, over_more now key.legs.items c.loop-i.i k (omega arith))
+    rw (c.in_ok-extend_from_slice.ensures.items, c.as_slice.ensures, over_more now key.legs.items c.loop-i.i k (omega arith))
     (legs_append now _ _ _ _ _ c.loop-i.invariant here)
 
 pub returns : goal.returns
