@@ -4,3 +4,4 @@ pub mod FormParts
 pub mod FormsInStore
 pub mod LeftSteps
 pub mod SliceSteps
+pub mod WaySteps
