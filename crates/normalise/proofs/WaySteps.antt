@@ -1,14 +1,14 @@
 -- The composites from the normal forms of the neighbours of a singular slice.
-use Rattle.std.proofs.Common.{◌≡◌, ℕ, suc, ◌+◌, ◌<◌, ◌≤◌, List, [], ◌∷◌, ◌++◌, length, get_or, sym, ap, subst, ◌∙◌, arith}
+use Rattle.std.proofs.Common.{◌≡◌, ℕ, suc, ◌<◌, ◌≤◌, List, [], ◌∷◌, ◌++◌, length, get_or, sym, subst, ◌∙◌, arith}
 use Rattle.std.proofs.lemmas.List.{append_assoc}
 use Rattle.diagram_terms.specs.Dimension.{dimension_of}
-use Rattle.diagram_terms.specs.Shape.{reg_at, sing_at, fwd_at, bwd_at}
+use Rattle.diagram_terms.specs.Shape.{reg_at, sing_at}
 use Rattle.diagram_terms.specs.Tree.{Tree, sings}
 use Rattle.diagram_terms.specs.ValidTrees.{IsArrowBetween}
 use Rattle.hashcons.specs.Contents.{Contents, Grows, Key, diagram_at, arrow_at, leg_of}
 use Rattle.hashcons.specs.NormalTrees.{TreeLeg}
 use Rattle.zigzag_maps.specs.declared.map.Map.{Map}
-use Rattle.zigzag_maps.specs.Found.{IsValidMap, IsValidDiagram}
+use Rattle.zigzag_maps.specs.Found.{IsValidMap}
 use Rattle.zigzag_maps.specs.MapTrees.{IsMapWith, IsValidArrowTree}
 use Rattle.zigzag_maps.proofs.KeptMaps.{valid_diagram-grows}
 use Rattle.zigzag_maps.proofs.ValidArrows.{between_of}
@@ -16,7 +16,7 @@ use Rattle.normalise.specs.declared.parts.Forms.{Forms}
 use Rattle.normalise.specs.LegSlices.{slice_trees_over}
 use Rattle.normalise.specs.FormTrees.{reg_normal, way_tree, fwd_way_tree, bwd_way_tree, way_trees}
 use Rattle.normalise.specs.StoreForms.{legs_of, IsLegInto, AreLegsWith, IsKeyOf, IsKeyWith, IsLegWith, AreForms}
-use Rattle.normalise.proofs.FormsInStore.{leg_into-grows, leg_with-grows, legs_into-grow, legs_of-grow, reg_form, sing_valid}
+use Rattle.normalise.proofs.FormsInStore.{leg_into-grows, legs_into-grow, legs_of-grow, reg_form, sing_valid}
 use Rattle.normalise.proofs.LeftSteps.{legs_push}
 
 -- ---- a form that was gathered

@@ -1,6 +1,6 @@
-use Rattle.std.proofs.Common.{◌≡◌, ℕ, suc, ◌+◌, ◌≤◌, ◌∷◌, [], ◌++◌, length, sym, ap, subst, ◌∙◌, arith}
-use Rattle.diagram_terms.specs.Shape.{reg_at, sing_at, fwd_at, bwd_at}
-use Rattle.diagram_terms.specs.Tree.{Tree, sings}
+use Rattle.std.proofs.Common.{◌≡◌, ℕ, ◌+◌, ◌∷◌, [], ◌++◌, sym, ap, subst, ◌∙◌, arith}
+use Rattle.diagram_terms.specs.Shape.{reg_at}
+use Rattle.diagram_terms.specs.Tree.{Tree}
 use Rattle.hashcons.specs.Contents.{diagram_at}
 use Rattle.hashcons.specs.NoteTables.{key_of}
 use Rattle.hashcons.proofs.Growth.{Grows-trans}
