@@ -6,3 +6,5 @@ pub mod LeftSteps
 pub mod AssembledForms
 pub mod FormSteps
 pub mod AnsweredMaps
+pub mod SliceSteps
+pub mod WaySteps

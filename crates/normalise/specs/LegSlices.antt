@@ -21,6 +21,10 @@ regular_slice_trees legs j = map (reg_leg_tree j) legs
 abbrev pub heights_to : TreeLeg → ℕ → List ℕ
 heights_to g k = filter (λ i. nat_eq (get_or (heights g.arrow) i 0) k) (upto (length (sings g.source)))
 
+-- the slices at those of its first n heights that go to k
+abbrev pub first_slices_to : ℕ → TreeLeg → ℕ → List TreeLeg
+first_slices_to k g n = map (sing_leg_tree g) (filter (λ i. nat_eq (get_or (heights g.arrow) i 0) k) (upto n))
+
 abbrev pub slices_to : ℕ → TreeLeg → List TreeLeg
 slices_to k g = map (sing_leg_tree g) (heights_to g k)
 

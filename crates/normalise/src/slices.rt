@@ -1,11 +1,11 @@
-ghost use Rattle.std.specs.Prelude.{◌≡◌, ◌<◌, ◌≤◌, IfOk, length};
+ghost use Rattle.std.specs.Prelude.{◌≡◌, ◌+◌, ◌<◌, ◌≤◌, IfOk, OnOk, length};
 ghost use Rattle.diagram_terms.specs.Dimension.{dimension_of};
 ghost use Rattle.diagram_terms.specs.Shape.{reg_at, sing_at};
 ghost use Rattle.diagram_terms.specs.Tree.{heights, sings};
 ghost use Rattle.hashcons.specs.Contents.{arrow_at, diagram_at, leg_of};
 ghost use Rattle.hashcons.specs.NoteTables.{key_of};
 ghost use Rattle.zigzag_maps.specs.Found.{IsValidMap};
-ghost use Rattle.normalise.specs.LegSlices.{regular_slice_trees, slice_trees_over, slices_to};
+ghost use Rattle.normalise.specs.LegSlices.{first_slices_to, regular_slice_trees, slice_trees_over, slices_to};
 ghost use Rattle.normalise.specs.NormalMaps.{as_leg};
 ghost use Rattle.normalise.specs.StoreForms.{AreLegsWith, IsKeyOf, IsKeyWith, legs_of};
 
@@ -78,7 +78,7 @@ fn slices_of(
     Ok(slices)
 }
 
-/// The slice at the height `i` too, where it goes to `k`.
+/// Adds the slice of a leg at the height `i`, where this goes to `k`, to those of the heights before.
 fn push_slice(
     store: &Store,
     slices: &mut SmallVec<(DiagramId, ArrowId), 4>,
@@ -89,6 +89,10 @@ fn push_slice(
     requires valid { IsValidMap store.now leg.now }
     requires above { 0 < dimension_of (arrow_at store.now leg.now.arrow) }
     requires within { i < length (heights (arrow_at store.now leg.now.arrow)) }
+    requires before { AreLegsWith store.now (sing_at (diagram_at store.now leg.now.target) k)
+        (first_slices_to k (leg_of store.now (as_leg leg.now)) i) slices.old.items }
+    ensures { OnOk result (AreLegsWith store.now (sing_at (diagram_at store.now leg.now.target) k)
+        (first_slices_to k (leg_of store.now (as_leg leg.now)) (i + 1)) slices.new.items) }
 {
     if store.height(leg.arrow, i) != k {
         return Ok(());

@@ -17,6 +17,7 @@ use zigzag_maps::{Map, bwd_map, compose, fwd_map};
 
 /// A singular slice of the target of a key, with what leads into it: the slices of the legs there,
 /// and the two composites from the normal forms of its neighbours.
+#[tactic(auto, using(crate::proofs::FormsInStore::forming))]
 pub(crate) fn singular_key(
     alloc: Global,
     store: &mut Store,

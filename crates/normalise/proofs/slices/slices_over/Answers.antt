@@ -1,4 +1,4 @@
-use Rattle.std.proofs.Common.{◌++◌, ◌<◌, ℕ, take, sym, ap, subst, ◌∙◌, arith}
+use Rattle.std.proofs.Common.{◌<◌, sym, subst, arith}
 use Rattle.std.proofs.lemmas.List.{take_all}
 use Rattle.diagram_terms.specs.Dimension.{dimension_of}
 use Rattle.diagram_terms.specs.Shape.{sing_at}
@@ -8,7 +8,7 @@ use Rattle.zigzag_maps.specs.declared.map.Map.{Map}
 use Rattle.zigzag_maps.specs.Found.{IsValidMap}
 use Rattle.normalise.specs.LegSlices.{slice_trees_over, slices_to}
 use Rattle.normalise.specs.NormalMaps.{as_leg}
-use Rattle.normalise.specs.StoreForms.{AreLegsWith, legs_of, leg_map_at}
+use Rattle.normalise.specs.StoreForms.{AreLegsWith, legs_of}
 use Rattle.normalise.proofs.FormsInStore.{leg_map-valid, leg_map-above}
 use Rattle.normalise.proofs.LeftSteps.{legs_append, over_more}
 use Rattle.normalise.proofs.slices.slices_over.Goals as goal
@@ -29,7 +29,7 @@ loop-i-preserved c =
     let k = c.args.k in
     let found = c.in_ok-found.found.items in
     let here = subst (λ (m : Map). AreLegsWith now (sing_at (diagram_at now m.target) k) (slices_to k (leg_of now (as_leg m))) found) c.leg_map-leg.ensures c.in_ok-found.ensures in
-    rw (c.in_ok-extend_from_slice.ensures.items, c.as_slice.ensures.value, over_more now key.legs.items c.loop-i.i k (omega arith))
+    rw (c.in_ok-extend_from_slice.ensures.items, c.as_slice.ensures, over_more now key.legs.items c.loop-i.i k (omega arith))
     (legs_append now _ _ _ _ _ c.loop-i.invariant here)
 
 pub returns : goal.returns

@@ -1,4 +1,4 @@
-use Rattle.std.proofs.Common.{sym, ap, subst, ◌∙◌}
+use Rattle.std.proofs.Common.{ap, ◌∙◌}
 use Rattle.hashcons.specs.Contents.{diagram_at}
 use Rattle.normalise.proofs.FormsInStore.{map_as_leg}
 use Rattle.normalise.proofs.ways.way.Goals as goal
