@@ -198,9 +198,10 @@ module _ (c : Contents) (k : Key) (h : IsKeyOf c k) where
         let n = length-map k.legs (leg_of c) in
         let passed = leg_factors h.target.valid.dim t gs h.target.valid.at_dim are_legs i (omega arith) in
         let there = subst (λ (g : TreeLeg). factors_tree g.arrow (tree_leg_at gs i).arrow ≡ true) (sym f.trees) passed in
-        let here = subst (λ (g : TreeLeg). factors_tree (arrow_at c x.1) g.arrow ≡ true) (leg_tree_at c k.legs i l) there in
-        (factor_tree (arrow_at c x.1) (arrow_at c (get_or k.legs i (0, 0)).1),
-        some_factor c (leg_map_at k i) (record { source = x.0; target = k.target; arrow = x.1 }) (leg_map-valid c k i h l) refl form_degenerate here)
+        let here = subst (λ (g : TreeLeg). factors_tree (arrow_at c x.1) g.arrow ≡ true) (leg_tree_at c k.legs i l) there in (
+          factor_tree (arrow_at c x.1) (arrow_at c (get_or k.legs i (0, 0)).1),
+          some_factor c (leg_map_at k i) (record { source = x.0; target = k.target; arrow = x.1 }) (leg_map-valid c k i h l) refl form_degenerate here,
+        )
 
     -- so it may be noted with the factors
     pub form_noted : (fs : List ℕ) → AreFactorsOf c k x (length k.legs) fs → IsNormalOf c k (record { source = x.0; arrow = x.1; factors = fs })

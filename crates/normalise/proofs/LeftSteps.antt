@@ -99,10 +99,12 @@ picks-none ts = record { below = record { below = λ i l. absurd (omega arith) }
 pub picks-push : (ts : List Tree) (ids : List ℕ) (us : List Tree) (x : ℕ) (u : Tree) → Picks ts ids us → x < length ts → get_or ts x nil ≡ u
     → Picks ts (ids ++ x ∷ []) (us ++ u ∷ [])
 picks-push ts ids us x u h l e = record {
-  below = record { below = λ i m. elim (cases i m) [
-    | inl q ↦ subst (λ (j : ℕ). j < length ts) (sym (get_or_append_left ids (x ∷ []) 0 i q)) (h.below.below i q)
-    | inr q ↦ subst (λ (j : ℕ). j < length ts) (sym (get_or_push ids x 0 i q)) l
-  ] };
+  below = record {
+    below = λ i m. elim (cases i m) [
+      | inl q ↦ subst (λ (j : ℕ). j < length ts) (sym (get_or_append_left ids (x ∷ []) 0 i q)) (h.below.below i q)
+      | inr q ↦ subst (λ (j : ℕ). j < length ts) (sym (get_or_push ids x 0 i q)) l
+    ];
+  };
   are = map-append (λ i. get_or ts i nil) ids (x ∷ []) ∙ (λ i. h.are i ++ e i ∷ []);
 }
   where

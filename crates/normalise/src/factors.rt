@@ -67,12 +67,7 @@ fn factors_of(
 }
 
 /// The factor of a map through a degeneracy through which it factors.
-fn factor_of(
-    alloc: Global,
-    store: &mut Store,
-    f: Map,
-    through: Map,
-) -> Result<ArrowId, AllocError>
+fn factor_of(alloc: Global, store: &mut Store, f: Map, through: Map) -> Result<ArrowId, AllocError>
     requires valid { IsValidMap store.old f }
     requires through { IsValidMap store.old through }
     requires meet { f.target ≡ through.target }
