@@ -1,7 +1,7 @@
 -- The normal form of a tree above dimension 0, by those of its slices.
-use Rattle.std.proofs.Common.{◌≡◌, ℕ, zero, suc, ◌<◌, ◌≤◌, List, [], ◌∷◌, ◌++◌, length, map, not, ◌&&◌, ◌||◌, nat_lt, sym, ap, subst, ◌∙◌, arith, inl, inr}
+use Rattle.std.proofs.Common.{◌≡◌, ℕ, suc, ◌<◌, ◌≤◌, List, [], ◌∷◌, ◌++◌, length, map, not, ◌&&◌, ◌||◌, nat_lt, sym, ap, subst, ◌∙◌, arith, inl, inr}
 use Rattle.std.specs.List.{Contains, filter}
-use Rattle.std.proofs.lemmas.List.{map-append, length-map, get_or-map, get_or_default, length-append}
+use Rattle.std.proofs.lemmas.List.{map-append, length-map, get_or_default}
 use Rattle.std.proofs.lemmas.List.Elements.{Contains-append_cases, Contains-append_right}
 use Rattle.std.proofs.lemmas.Simd.{map-map}
 use Rattle.diagram_terms.specs.declared.place.Keep.TheVariants as keep
@@ -23,7 +23,7 @@ use Rattle.diagram_terms.proofs.Glue.{arr-arr_tree, arr_tree-arr, dia_tree-dia, 
 use Rattle.diagram_terms.proofs.NotionsOnTrees.{on_arrow_at}
 use Rattle.map_laws.proofs.ValidComposites.{composites_are_valid}
 use Rattle.normal_form_laws.proofs.Members.{in_head, in_tail, in_none, in_cases, from_upto, from_filter}
-use Rattle.hashcons.specs.NormalTrees.{TreeLeg, leg_in, tree_leg_at}
+use Rattle.hashcons.specs.NormalTrees.{TreeLeg, leg_in}
 use Rattle.zigzag_maps.specs.MapTrees.{IsValidArrowAt}
 use Rattle.zigzag_maps.proofs.CompositeSlices.{composite_shape}
 use Rattle.zigzag_maps.proofs.ValidArrows.{reg_tree, sing_tree, fwd_at_is, bwd_at_is}

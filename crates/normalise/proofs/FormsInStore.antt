@@ -1,12 +1,10 @@
 -- Legs, keys and normal forms in a store, while it grows.
-use Rattle.std.proofs.Common.{◌≡◌, ℕ, zero, suc, ◌<◌, ◌≤◌, ◌+◌, List, [], ◌∷◌, ◌++◌, length, map, get_or, Bool, true, false, nat_eq, Some, refl, sym, ap, subst, ◌∙◌, arith, inl, inr}
-use Rattle.std.specs.List.{Contains}
+use Rattle.std.proofs.Common.{◌≡◌, ℕ, zero, suc, ◌<◌, ◌≤◌, ◌+◌, List, [], ◌∷◌, ◌++◌, length, get_or, true, nat_eq, refl, sym, ap, subst, ◌∙◌, arith, inl, inr}
 use Rattle.std.proofs.lemmas.Bool.{cases_Bool, cases_lt, eq-eqb, ne_eqb}
 use Rattle.std.proofs.lemmas.List.{get_or-map, length-map, get_or_default, get_or_append_left, get_or_push, length_push}
 use Rattle.diagram_terms.specs.Composite.{ident}
 use Rattle.diagram_terms.specs.Decoded.{dia, arr, arr_tree}
 use Rattle.diagram_terms.specs.Dimension.{dimension_of}
-use Rattle.diagram_terms.specs.Family.{Arr}
 use Rattle.diagram_terms.specs.Loose.{is_identity}
 use Rattle.diagram_terms.specs.Nodes.{picked}
 use Rattle.diagram_terms.specs.NormalForms.{normal_form}
@@ -20,9 +18,8 @@ use Rattle.diagram_terms.proofs.LooseTests.{is_identity_decides}
 use Rattle.diagram_terms.proofs.NotionsOnTrees.{on_diagram_at, on_arrow_at}
 use Rattle.diagram_terms.proofs.Shapes.{one_diagram_dimension}
 use Rattle.map_laws.proofs.IdentityShapes.{identities_have_shape, shape_means_identity}
-use Rattle.normal_form_laws.proofs.Members.{from_map, in_map}
-use Rattle.hashcons.specs.Contents.{Contents, Grows, Key, IsStore, IsDiagramOf, IsArrowOf, IsLegOf, IsNormalOf, diagram_at, arrow_at, leg_of}
-use Rattle.hashcons.specs.Gathers.{Gathers}
+use Rattle.normal_form_laws.proofs.Members.{from_map}
+use Rattle.hashcons.specs.Contents.{Contents, Grows, Key, IsStore, IsArrowOf, IsNormalOf, diagram_at, arrow_at, leg_of}
 use Rattle.hashcons.specs.NormalTrees.{TreeLeg, tree_leg_at, IsNormalTree}
 use Rattle.hashcons.specs.Notes as notes
 use Rattle.hashcons.proofs.OneMoreTree.{Grows-refl}
@@ -38,12 +35,11 @@ use Rattle.zigzag_maps.proofs.ValidArrows.{reg_tree, sing_tree, valid_arrow, bet
 use Rattle.degeneracy.specs.DegeneracyTrees.{IsDegeneracyTree, IsDegeneracyMap, IsFactorTree, IsFactorArrow}
 use Rattle.degeneracy.specs.FactorTrees.{factors_tree, factor_tree}
 use Rattle.degeneracy.proofs.FactorMaps.{some_factor}
-use Rattle.normalise.specs.LegSlices.{regular_slice_trees}
 use Rattle.normalise.specs.FormTrees.{normal_tree, reg_normal, identity_test, assembled_tree}
 use Rattle.normalise.specs.NormalMaps.{no_map, AreMapsInto, as_leg, key_for, IsReducedTree}
-use Rattle.normalise.specs.StoreForms.{legs_of, IsLegInto, AreLegsInto, AreLegsWith, IsKeyOf, IsKeyWith, IsArrowOut, leg_map_at, IsLegWith, IsArrowWith, IsFactorOf, AreFactorsOf}
+use Rattle.normalise.specs.StoreForms.{legs_of, IsLegInto, AreLegsInto, IsKeyOf, IsKeyWith, IsArrowOut, leg_map_at, IsLegWith, IsArrowWith, IsFactorOf, AreFactorsOf}
 use Rattle.normalise.proofs.SliceTrees.{LegsIn, map_same_in, in_at}
-use Rattle.normalise.proofs.LeastForms.{normal_tree_at, normal_arrow, normal_degeneracy, normal_noted, leg_factors, factor_is_arrow, factor_valid, noted_is, noted_factor, noted_reduced}
+use Rattle.normalise.proofs.LeastForms.{normal_tree_at, normal_arrow, normal_degeneracy, normal_noted, leg_factors, noted_is, noted_factor, noted_reduced}
 use Rattle.normalise.proofs.FormParts.{normal_assembled, reg_arrow}
 
 -- ---- legs and keys while the store grows

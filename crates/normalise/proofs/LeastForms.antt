@@ -1,21 +1,18 @@
 -- The normal form of a valid tree for valid legs is the least degeneracy for them, and the only one.
 use Rattle.std.proofs.Common.{◌≡◌, ℕ, ◌<◌, List, length, map, get_or, true, sym, ap, subst, ◌∙◌, arith}
-use Rattle.std.specs.List.{Contains}
-use Rattle.std.proofs.lemmas.List.{get_or-map, length-map, get_or_default}
+use Rattle.std.proofs.lemmas.List.{get_or-map, length-map}
 use Rattle.diagram_terms.specs.declared.place.Keep.TheVariants as keep
 use Rattle.diagram_terms.specs.Composite.{comp}
-use Rattle.diagram_terms.specs.Decoded.{dia, arr, dia_tree, arr_tree}
+use Rattle.diagram_terms.specs.Decoded.{dia, arr, arr_tree}
 use Rattle.diagram_terms.specs.Degeneracy.{Degeneracy}
-use Rattle.diagram_terms.specs.Dual.{tab}
-use Rattle.diagram_terms.specs.Factors.{factor_leg, factor_legs, factor_through}
+use Rattle.diagram_terms.specs.Factors.{factor_leg, factor_through}
 use Rattle.diagram_terms.specs.Family.{Dia, Arr, no_dia, no_arr}
-use Rattle.diagram_terms.specs.Least.{Leg, leg_at, ValidLegs, ValidLeg, IsLeast, FactorsBy, LegsFactorBy}
+use Rattle.diagram_terms.specs.Least.{Leg, leg_at, ValidLegs, ValidLeg, IsLeast, FactorsBy}
 use Rattle.diagram_terms.specs.NormalForms.{normal_form}
-use Rattle.diagram_terms.specs.Operations.{composite_tree}
 use Rattle.diagram_terms.specs.Shape.{IsDiagram, IsArrow}
 use Rattle.diagram_terms.specs.Tree.{Tree, nil}
 use Rattle.diagram_terms.specs.Valid.{Valid, ValidArrow}
-use Rattle.diagram_terms.specs.ValidTrees.{IsValidTreeAt, IsValidTree}
+use Rattle.diagram_terms.specs.ValidTrees.{IsValidTreeAt}
 use Rattle.diagram_terms.proofs.Dimensions.{diagram_dimension}
 use Rattle.diagram_terms.proofs.Duals.{get-tab, length-tab}
 use Rattle.diagram_terms.proofs.FamilyShapes.{diagram_shape, valid_fits, arrow_shape, valid_arrow_fits}

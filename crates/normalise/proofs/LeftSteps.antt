@@ -1,17 +1,16 @@
 -- Loops that gather legs, forms and what is left.
-use Rattle.std.proofs.Common.{◌≡◌, ℕ, suc, ◌<◌, ◌≤◌, ◌+◌, List, [], ◌∷◌, ◌++◌, ◌⊎◌, length, map, take, get_or, Bool, true, false, cond, nat_eq, refl, sym, ap, subst, ◌∙◌, arith, inl, inr}
+use Rattle.std.proofs.Common.{◌≡◌, ℕ, suc, ◌<◌, ◌+◌, List, [], ◌∷◌, ◌++◌, ◌⊎◌, length, map, take, get_or, Bool, true, false, cond, refl, sym, ap, subst, ◌∙◌, arith, inl, inr}
 use Rattle.std.specs.List.{Contains, filter, flat_map}
 use Rattle.std.proofs.lemmas.Bool.{cases_Bool}
 use Rattle.std.proofs.lemmas.List.{map-append, take_more, length_push, get_or_append_left, get_or_push, append-nil}
-use Rattle.std.proofs.lemmas.List.Concat.{flat_map-append, flat_map-cons}
+use Rattle.std.proofs.lemmas.List.Concat.{flat_map-append}
 use Rattle.std.proofs.lemmas.List.Elements.{filter-append, Contains-append_cases}
 use Rattle.std.proofs.lemmas.List.FromFn.{map-range_with_len_more}
-use Rattle.diagram_terms.specs.Dual.{AreBelow, upto, tab}
+use Rattle.diagram_terms.specs.Dual.{upto, tab}
 use Rattle.diagram_terms.specs.Nodes.{picked}
 use Rattle.diagram_terms.specs.Tree.{Tree, nil, zig, zag, sings}
 use Rattle.normal_form_laws.proofs.Members.{in_none, in_cases}
-use Rattle.hashcons.specs.Contents.{Contents, Grows, diagram_at, arrow_at, leg_of}
-use Rattle.hashcons.specs.Gathers.{Gathers}
+use Rattle.hashcons.specs.Contents.{Contents, Grows, diagram_at, leg_of}
 use Rattle.hashcons.specs.NormalTrees.{TreeLeg}
 use Rattle.hashcons.specs.Nodes.{AreArrowChildren, AreDiagramChildren}
 use Rattle.hashcons.proofs.Growth.{gathers-below, gathers-picked, gathers-diagrams_grow, gathers-arrows_grow}
@@ -19,9 +18,9 @@ use Rattle.hashcons.proofs.TableTrees.{picked-agree}
 use Rattle.normalise.specs.declared.parts.Forms.{Forms}
 use Rattle.normalise.specs.declared.left.Left.{Left}
 use Rattle.normalise.specs.declared.level.Level.{Level}
-use Rattle.normalise.specs.LegSlices.{reg_leg_tree, sing_leg_tree, regular_slice_trees, heights_to, slices_to, slice_trees_over}
+use Rattle.normalise.specs.LegSlices.{reg_leg_tree, regular_slice_trees, slices_to, slice_trees_over}
 use Rattle.normalise.specs.FormTrees.{reg_normal, sing_normal, fwd_tree, bwd_tree, is_kept_tree, kept_below, assembled_tree}
-use Rattle.normalise.specs.StoreForms.{legs_of, IsLegInto, AreLegsInto, AreLegsWith, AreForms, Picks, IsLeftOf, IsLevelOf, IsEmptyLeft, IsMoreLeft, added}
+use Rattle.normalise.specs.StoreForms.{legs_of, IsLegInto, AreLegsWith, AreForms, Picks, IsLeftOf, IsLevelOf, IsEmptyLeft, IsMoreLeft, added}
 
 -- ---- one more
 

@@ -15,7 +15,7 @@ use Rattle.normal_form_laws.proofs.Members.{in_head, in_tail, from_map, from_fla
 use Rattle.zigzag_maps.specs.MapTrees.{IsValidArrowAt}
 use Rattle.zigzag_maps.proofs.ValidArrows.{regs_is, heights_is, sings_is, reg_source, reg_is, sing_is}
 use Rattle.hashcons.specs.NormalTrees.{TreeLeg, leg_in}
-use Rattle.normalise.specs.LegSlices.{reg_leg_tree, sing_leg_tree, regular_slice_trees, heights_to, slices_to, slice_trees_over}
+use Rattle.normalise.specs.LegSlices.{reg_leg_tree, sing_leg_tree, regular_slice_trees, heights_to, slice_trees_over}
 
 -- ---- lists, by what they have
 

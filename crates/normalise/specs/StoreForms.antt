@@ -1,11 +1,11 @@
 -- What is found of normal forms in a store, by its trees.
-use Rattle.std.specs.Prelude.{◌≡◌, ℕ, suc, ◌<◌, List, [], ◌∷◌, ◌++◌, length, get_or, map, Bool, not, ◌&&◌, ◌||◌, cond, nat_lt, Result, IfOk}
+use Rattle.std.specs.Prelude.{◌≡◌, ℕ, ◌<◌, List, [], ◌∷◌, ◌++◌, length, get_or, map, Bool, not, ◌&&◌, ◌||◌, cond, nat_lt, Result, IfOk}
 use Rattle.std.specs.List.{Contains}
 use Rattle.diagram_terms.specs.Dual.{AreBelow}
 use Rattle.diagram_terms.specs.Nodes.{picked}
-use Rattle.diagram_terms.specs.Tree.{Tree, sings}
+use Rattle.diagram_terms.specs.Tree.{Tree}
 use Rattle.diagram_terms.specs.ValidTrees.{IsValidTree, IsArrowBetween}
-use Rattle.hashcons.specs.Contents.{Contents, Grows, Key, IsDiagramOf, IsArrowOf, IsLegOf, IsValidDiagram, diagram_at, arrow_at, leg_of}
+use Rattle.hashcons.specs.Contents.{Contents, Grows, Key, IsArrowOf, IsLegOf, IsValidDiagram, diagram_at, arrow_at, leg_of}
 use Rattle.hashcons.specs.Gathers.{Gathers}
 use Rattle.hashcons.specs.NormalTrees.{TreeLeg}
 use Rattle.zigzag_maps.specs.declared.map.Map.{Map}
@@ -14,7 +14,7 @@ use Rattle.normalise.specs.declared.parts.Forms.{Forms}
 use Rattle.normalise.specs.declared.left.Left.{Left}
 use Rattle.normalise.specs.declared.level.Level.{Level}
 use Rattle.normalise.specs.LegSlices.{slice_trees_over}
-use Rattle.normalise.specs.FormTrees.{reg_normal, sing_normal, fwd_tree, bwd_tree, is_kept_tree, kept_below, identity_test}
+use Rattle.normalise.specs.FormTrees.{reg_normal, sing_normal, fwd_tree, bwd_tree, kept_below, identity_test}
 
 -- ---- legs
 

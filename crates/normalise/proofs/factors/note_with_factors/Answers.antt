@@ -1,6 +1,6 @@
 use Rattle.std.proofs.Common.{sym, subst}
 use Rattle.hashcons.specs.Contents.{Key, IsNormalOf}
-use Rattle.hashcons.specs.NoteTables.{key_of, normal_of}
+use Rattle.hashcons.specs.NoteTables.{key_of}
 use Rattle.normalise.proofs.FormsInStore.{key-grows, form_grows, form_noted}
 use Rattle.normalise.proofs.factors.note_with_factors.Goals as goal
 
