@@ -3,11 +3,12 @@ ghost use Rattle.hashcons.specs.Contents.{Grows};
 ghost use Rattle.zigzag_maps.specs.Found.{IsValidMap};
 
 use crate::stored::map_of;
-use hashcons::Store;
+use hashcons::{ArrowId, DiagramId, NormalKey, Store};
 use normalise::{Normal, normalise};
+use smallvec::SmallVec;
 use std::alloc::{AllocError, Global};
 use std::test::Fail;
-use zigzag_maps::{Map, identity};
+use zigzag_maps::{Map, compose, identity};
 
 /// The normal form of the target of a map, with no legs.
 pub(crate) fn free_form(alloc: Global, store: &mut Store, map: &Map) -> Result<Normal, AllocError>
@@ -87,4 +88,45 @@ pub(crate) fn stays_the_same(
     let before = store.storage();
     form_for(alloc, store, &map)?;
     Ok(store.storage() == before)
+}
+
+/// The source and the arrow that are noted as the normal form of the target of a map, with no legs.
+fn noted_form(alloc: Global, store: &Store, map: &Map) -> Option<(DiagramId, ArrowId)> {
+    let key = NormalKey {
+        target: map.target,
+        legs: SmallVec::new(alloc),
+    };
+    let known = store.known_normal(&key)?;
+    Some((known.source, known.arrow))
+}
+
+/// Whether the normal form of the target of the map at these places is noted once it was asked for,
+/// and not before.
+pub(crate) fn is_noted(
+    store: &mut Store,
+    nodes: &str,
+    places: (usize, usize, usize),
+) -> Result<bool, Fail> {
+    let alloc = store.allocator();
+    let map = map_of(alloc, store, nodes, places)?;
+    let before = noted_form(alloc, store, &map);
+    let normal = free_form(alloc, store, &map)?;
+    let after = noted_form(alloc, store, &map);
+    Ok(before.is_none() && after == Some((normal.map.source, normal.map.arrow)))
+}
+
+/// Whether the composite of the identity of the source of a map with itself is noted once it was
+/// made, and not before; and whether it is that identity.
+pub(crate) fn is_composite_noted(
+    store: &mut Store,
+    nodes: &str,
+    places: (usize, usize, usize),
+) -> Result<bool, Fail> {
+    let alloc = store.allocator();
+    let map = map_of(alloc, store, nodes, places)?;
+    let unit = identity(alloc, store, map.source)?;
+    let before = store.known_composite(unit.arrow, unit.arrow);
+    let composite = compose(alloc, store, unit, unit)?;
+    let after = store.known_composite(unit.arrow, unit.arrow);
+    Ok(before.is_none() && composite == unit && after == Some(unit.arrow))
 }

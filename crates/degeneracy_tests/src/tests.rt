@@ -1,4 +1,4 @@
-use crate::normals::{is_kept_whole, is_normal_form, is_own_form, stays_the_same};
+use crate::normals::{is_composite_noted, is_kept_whole, is_normal_form, is_noted, is_own_form, stays_the_same};
 use crate::stored::{factor_of, has_parts, has_unit_factor, map_of, maps_of};
 use degeneracy::is_degeneracy;
 use hashcons::Store;
@@ -97,5 +97,13 @@ fn normal_forms_are_least(rt: HostRuntime) -> Result<(), Fail> {
     assert!(rt; over_new_store(alloc, |store| is_kept_whole(store, NODES, FIRST))?);
     assert!(rt; over_new_store(alloc, |store| is_own_form(store, NODES, FIRST))?);
     assert!(rt; over_new_store(alloc, |store| stays_the_same(store, NODES, FIRST))?);
+    Ok(())
+}
+
+#[test]
+fn what_is_made_is_noted(rt: HostRuntime) -> Result<(), Fail> {
+    let alloc = rt.alloc();
+    assert!(rt; over_new_store(alloc, |store| is_composite_noted(store, NODES, SECOND))?);
+    assert!(rt; over_new_store(alloc, |store| is_noted(store, NODES, SECOND))?);
     Ok(())
 }
