@@ -1,4 +1,6 @@
-use crate::normals::{is_composite_noted, is_kept_whole, is_normal_form, is_noted, is_own_form, stays_the_same};
+use crate::normals::{
+    is_composite_noted, is_kept_whole, is_normal_form, is_noted, is_own_form, stays_the_same,
+};
 use crate::stored::{factor_of, has_parts, has_unit_factor, map_of, maps_of};
 use degeneracy::is_degeneracy;
 use hashcons::Store;
