@@ -4,6 +4,7 @@ pub mod PreimageSteps
 pub mod CutSteps
 pub mod DiagramSteps
 pub mod MapCuts
+pub mod WholeSteps
 pub mod PointSteps
 pub mod NextPoints
 pub mod WalkSteps

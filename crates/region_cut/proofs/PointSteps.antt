@@ -1,4 +1,4 @@
--- The region of a point, by that of the rest of its heights.
+-- The region of a path, by that of the rest of its heights.
 use Rattle.std.proofs.Common.{◌&&◌, true, ◌≡◌, ℕ, zero, suc, ◌+◌, ◌-◌, ◌<◌, List, [], ◌∷◌, length, get_or, drop, drop_of_length-le, Vec, Global, Result, IfOk, Ok, Err, refl, sym, ap, subst, ◌∙◌, arith, inl, inr}
 use Rattle.std.proofs.lemmas.Bool.{cases_lt}
 use Rattle.std.proofs.lemmas.List.{drop_more}
@@ -13,51 +13,57 @@ use Rattle.diagram_terms.specs.Valid.{Valid}
 use Rattle.diagram_terms.proofs.Dimensions.{diagram_dimension}
 use Rattle.diagram_terms.proofs.Glue.{dia-reg, dia-sing, dia-fwd, dia-bwd, dia-sings_len}
 use Rattle.diagram_terms.specs.ClosedRegions.{IsClosedRegion}
-use Rattle.diagram_terms.specs.Paths.{IsPointOf}
+use Rattle.diagram_terms.specs.Paths.{IsPathOf}
 use Rattle.diagram_terms.specs.PointRegions.{point_region, at_reg}
 use Rattle.diagram_terms.specs.Preimages.{preimage}
-use Rattle.diagram_terms.specs.Regions.{Reg}
-use Rattle.region_laws.proofs.PointRegions.{point_region-reg, point_region-sing, point_regions_are_closed}
+use Rattle.diagram_terms.specs.Regions.{Reg, whole_region}
+use Rattle.region_laws.proofs.PointRegions.{point_region-reg, point_region-sing, path_regions_are_closed}
 use Rattle.diagram_terms.specs.ValidTrees.{IsValidTree}
 use Rattle.region_cut.specs.declared.region.Region.{Region}
 use Rattle.region_cut.specs.declared.region.Region.TheVariants as region
 use Rattle.region_cut.specs.OverRegions.{IsOver}
-use Rattle.region_cut.specs.PointTrees.{HasPoint, IsPointIn, IsRegionOfPoint}
+use Rattle.region_cut.specs.PointTrees.{HasPath, IsPathIn, IsRegionOfPoint}
 use Rattle.region_cut.specs.RegionValues.{region_of, IsRegionValue, AreRegionValues, IsClosedIn}
 use Rattle.diagram_terms.specs.OnTrees.{on_diagram}
 use Rattle.region_cut.proofs.PreimageSteps.{same_preimage}
 use Rattle.region_cut.proofs.SlicesOver.{over_same, over-fwd, over-bwd}
 use Rattle.region_cut.proofs.ReadRegions.{value_all, value_span, value_more, span}
 
--- at dimension 0
-pub point_zero : (n : ℕ) (X : Dia n) (hs : List Height) → n ≡ 0 → IsRegionValue n (point_region n X hs) region.All
-point_zero zero X hs e = value_all (point_region zero X hs)
-point_zero (suc n) X hs e = absurd (omega arith)
+-- ---- where it ends
 
--- one level up there is a height
-nonempty : (d : ℕ) (X : Dia (suc d)) (hs : List Height) → hs ≡ [] → IsPointOf (suc d) X hs → 1 < 1
-nonempty d X hs e p = absurd (subst (IsPointOf (suc d) X) e p)
+-- the region of a path of no heights is the whole
+whole_here : (n : ℕ) (X : Dia n) → whole_region n X ≡ point_region n X []
+unfolding point_region whole_region
+whole_here zero x = refl
+whole_here (suc d) X = refl
 
-pub height_there : (n : ℕ) (t : Tree) (at : ℕ) (hs : List Height) → 0 < n → HasPoint n t (drop at hs) → at < length hs
-height_there zero t at hs l h = absurd (omega arith)
-height_there (suc d) t at hs l h = elim (cases_lt at (length hs)) [
-  | inl p ↦ p
-  | inr p ↦ absurd (let z = nonempty d (dia (suc d) t) (drop at hs) (drop_of_length-le hs p) h.point in omega arith)
-]
+pub path_end : {E : Type 0} (n : ℕ) (t : Tree) (at : ℕ) (hs : List Height) (a : Result Region E) → length hs ≤ at
+    → IfOk a (IsRegionValue n (whole_region n (dia n t))) → IfOk a (IsRegionValue n (point_region n (dia n t) (drop at hs)))
+path_end n t at hs a l h =
+    subst (λ gs. IfOk a (IsRegionValue n (point_region n (dia n t) gs))) (sym (drop_of_length-le hs l))
+    (subst (λ W. IfOk a (IsRegionValue n W)) (whole_here n (dia n t)) h)
 
-module _ (n : ℕ) (t : Tree) (at : ℕ) (hs : List Height) (g : Height) (l : 0 < n) (h : HasPoint n t (drop at hs)) (is : get_or hs at (height_kind.R 0) ≡ g) where
+-- ---- one height more
+
+-- a path with a height has it above dimension 0
+pub path_above : (n : ℕ) (t : Tree) (at : ℕ) (hs : List Height) → at < length hs → HasPath n t (drop at hs) → 0 < n
+path_above zero t at hs l h = absurd (subst (IsPathOf zero (dia zero t)) (drop_more hs at (height_kind.R 0) l) h.path)
+path_above (suc d) t at hs l h = omega arith
+
+module _ (n : ℕ) (t : Tree) (at : ℕ) (hs : List Height) (g : Height) (here : at < length hs) (h : HasPath n t (drop at hs))
+    (is : get_or hs at (height_kind.R 0) ≡ g) where
   one_below : n ≡ suc (n - 1)
-  one_below = omega arith
+  one_below = let l = path_above n t at hs here h in omega arith
 
   rest : drop at hs ≡ g ∷ drop (at + 1) hs
-  rest = drop_more hs at (height_kind.R 0) (height_there n t at hs l h) ∙ ap (λ x. x ∷ drop (at + 1) hs) is
+  rest = drop_more hs at (height_kind.R 0) here ∙ ap (λ x. x ∷ drop (at + 1) hs) is
 
-  pub point_below : HasPoint (suc (n - 1)) t (g ∷ drop (at + 1) hs)
-  point_below = subst (λ m. HasPoint m t (g ∷ drop (at + 1) hs)) one_below (subst (HasPoint n t) rest h)
+  pub path_below : HasPath (suc (n - 1)) t (g ∷ drop (at + 1) hs)
+  path_below = subst (λ m. HasPath m t (g ∷ drop (at + 1) hs)) one_below (subst (HasPath n t) rest h)
 
-  pub point_above : {E : Type 0} (a : Result Region E) → IfOk a (IsRegionValue (suc (n - 1)) (point_region (suc (n - 1)) (dia (suc (n - 1)) t) (g ∷ drop (at + 1) hs)))
+  pub path_further : {E : Type 0} (a : Result Region E) → IfOk a (IsRegionValue (suc (n - 1)) (point_region (suc (n - 1)) (dia (suc (n - 1)) t) (g ∷ drop (at + 1) hs)))
       → IfOk a (IsRegionValue n (point_region n (dia n t) (drop at hs)))
-  point_above a e =
+  path_further a e =
       subst (λ gs. IfOk a (IsRegionValue n (point_region n (dia n t) gs))) (sym rest)
       (subst (λ m. IfOk a (IsRegionValue m (point_region m (dia m t) (g ∷ drop (at + 1) hs)))) (sym one_below) e)
 
@@ -66,15 +72,15 @@ one_value r = record { shapes = (λ i. r.shape i && true); regions = (λ i. r.re
 
 module _ (d : ℕ) (t : Tree) (hs : List Height) (v : Region) where
   -- over a regular height
-  module _ (j : ℕ) (u : Tree) (h : HasPoint (suc d) t (height_kind.R j ∷ hs)) (e : u ≡ reg_at t j) where
+  module _ (j : ℕ) (u : Tree) (h : HasPath (suc d) t (height_kind.R j ∷ hs)) (e : u ≡ reg_at t j) where
     slice : reg d (dia (suc d) t) j ≡ dia d u
-    slice = dia-reg d t h.shape j (omega (arith, h.point.0, dia-sings_len d t)) ∙ ap (dia d) (sym e)
+    slice = dia-reg d t h.shape j (omega (arith, h.path.0, dia-sings_len d t)) ∙ ap (dia d) (sym e)
 
-    pub regular_rest : HasPoint d u hs
+    pub regular_rest : HasPath d u hs
     regular_rest = record {
-      shape = subst (IsDiagram d) (sym e) (h.shape.regs_are j (omega (arith, h.point.0, dia-sings_len d t)));
-      valid = subst (Valid d) slice (h.valid.regs j h.point.0);
-      point = subst (λ Y. IsPointOf d Y hs) slice h.point.1;
+      shape = subst (IsDiagram d) (sym e) (h.shape.regs_are j (omega (arith, h.path.0, dia-sings_len d t)));
+      valid = subst (Valid d) slice (h.valid.regs j h.path.0);
+      path = subst (λ Y. IsPathOf d Y hs) slice h.path.1;
     }
 
     pub regular_region : (rs ss : Vec Region Global) → rs.items ≡ v ∷ [] → ss.items ≡ [] → IsRegionValue d (point_region d (dia d u) hs) v
@@ -87,12 +93,12 @@ module _ (d : ℕ) (t : Tree) (hs : List Height) (v : Region) where
         }
 
   -- over a singular height
-  module _ (k : ℕ) (u : Tree) (h : HasPoint (suc d) t (height_kind.S k ∷ hs)) (e : u ≡ sing_at t k) (r : IsRegionValue d (point_region d (dia d u) hs) v) where
+  module _ (k : ℕ) (u : Tree) (h : HasPath (suc d) t (height_kind.S k ∷ hs)) (e : u ≡ sing_at t k) (r : IsRegionValue d (point_region d (dia d u) hs) v) where
     abbrev X : Dia (suc d)
     X = dia (suc d) t
 
     here : k < length (sings t)
-    here = omega (arith, h.point.0, dia-sings_len d t)
+    here = omega (arith, h.path.0, dia-sings_len d t)
 
     inner : sing d X k ≡ dia d u
     inner = dia-sing d t h.shape k here ∙ ap (dia d) (sym e)
@@ -104,7 +110,7 @@ module _ (d : ℕ) (t : Tree) (hs : List Height) (v : Region) where
     is_region = ap (λ Y. point_region d Y hs) inner ∙ sym r.region
 
     inner_closed : IsClosedRegion d (sing d X k) (point_region d (sing d X k) hs)
-    inner_closed = point_regions_are_closed d (sing d X k) hs (h.valid.sings k h.point.0) h.point.1
+    inner_closed = path_regions_are_closed d (sing d X k) hs (h.valid.sings k h.path.0) h.path.1
 
     before_is : (s : Tree) → s ≡ reg_at t k → reg d X k ≡ dia d s
     before_is s p = dia-reg d t h.shape k (omega (arith, here)) ∙ ap (dia d) (sym p)
@@ -134,24 +140,24 @@ module _ (d : ℕ) (t : Tree) (hs : List Height) (v : Region) where
         }
 
 -- of a diagram in its own dimension
-pub has_point : (n : ℕ) (t : Tree) (hs : List Height) → n ≡ dimension_of t → IsValidTree t → IsPointIn t hs → HasPoint n t hs
+pub has_path : (n : ℕ) (t : Tree) (hs : List Height) → n ≡ dimension_of t → IsValidTree t → IsPathIn t hs → HasPath n t hs
 unfolding on_diagram
-has_point n t hs e v p =
-    subst (λ m. HasPoint m t hs) (sym e) (record {
+has_path n t hs e v p =
+    subst (λ m. HasPath m t hs) (sym e) (record {
       shape = subst (λ m. IsDiagram m t) (sym (diagram_dimension v.dim t v.at_dim.shape)) v.at_dim.shape;
       valid = subst (λ (m : ℕ). Valid m (dia m t)) (sym (diagram_dimension v.dim t v.at_dim.shape)) v.at_dim.valid;
-      point = p;
+      path = p;
     })
 
-pub exact_point : {E : Type 0} (n : ℕ) (t : Tree) (hs : List Height) (a : Result Region E) → n ≡ dimension_of t
+pub exact_path : {E : Type 0} (n : ℕ) (t : Tree) (hs : List Height) (a : Result Region E) → n ≡ dimension_of t
     → IfOk a (IsRegionValue n (point_region n (dia n t) hs)) → IfOk a (IsRegionOfPoint t hs)
 unfolding on_diagram
-exact_point n t hs a e h = subst (λ m. IfOk a (IsRegionValue m (point_region m (dia m t) hs))) e h
+exact_path n t hs a e h = subst (λ m. IfOk a (IsRegionValue m (point_region m (dia m t) hs))) e h
 
-pub closed_point : {E : Type 0} (n : ℕ) (t : Tree) (hs : List Height) (a : Result Region E) → n ≡ dimension_of t → HasPoint n t hs
+pub closed_path : {E : Type 0} (n : ℕ) (t : Tree) (hs : List Height) (a : Result Region E) → n ≡ dimension_of t → HasPath n t hs
     → IfOk a (IsRegionValue n (point_region n (dia n t) hs)) → IfOk a (IsClosedIn t)
 unfolding on_diagram
-closed_point n t hs (Ok v) e o h =
+closed_path n t hs (Ok v) e o h =
     subst (λ m. IsClosedRegion m (dia m t) (region_of m v)) e
-    (subst (IsClosedRegion n (dia n t)) (sym h.region) (point_regions_are_closed n (dia n t) hs o.valid o.point))
-closed_point n t hs (Err x) e o h = tt
+    (subst (IsClosedRegion n (dia n t)) (sym h.region) (path_regions_are_closed n (dia n t) hs o.valid o.path))
+closed_path n t hs (Err x) e o h = tt

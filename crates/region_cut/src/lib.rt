@@ -8,6 +8,7 @@ mod point_regions;
 mod preimages;
 mod region;
 mod walk;
+mod whole_regions;
 
 pub use cuts::{cut_arrow, cut_diagram};
 pub use point_regions::point_region;

@@ -3,16 +3,18 @@ ghost use Rattle.diagram_terms.specs.Decoded.{dia};
 ghost use Rattle.hashcons.specs.Contents.{IsDiagramOf, diagram_at};
 ghost use Rattle.diagram_terms.specs.PointRegions.{point_region as point_region_of};
 ghost use Rattle.zigzag_maps.specs.Found.{IsValidDiagram};
-ghost use Rattle.region_cut.specs.PointTrees.{HasPoint, IsPointIn, IsRegionOfPoint};
+ghost use Rattle.region_cut.specs.PointTrees.{HasPath, IsPathIn, IsRegionOfPoint};
 ghost use Rattle.region_cut.specs.RegionValues.{IsClosedIn, IsRegionValue};
 
 use crate::preimages::preimage_along;
 use crate::region::Region;
+use crate::whole_regions::whole_region;
 use diagram_terms::Height;
 use hashcons::{AnyId, DiagramId, Store};
 use std::alloc::{AllocError, Global};
 
-/// The region of a point of a diagram.
+/// The region of a point of a diagram, and of a path, where the slice to which it leads counts
+/// whole.
 pub fn point_region(
     alloc: Global,
     store: &Store,
@@ -20,7 +22,7 @@ pub fn point_region(
     point: &[Height],
 ) -> Result<Region, AllocError>
     requires valid { IsValidDiagram store.now d }
-    requires point { IsPointIn (diagram_at store.now d) point.now }
+    requires path { IsPathIn (diagram_at store.now d) point.now }
     ensures is { IfOk result (IsRegionOfPoint (diagram_at store.now d) point.now) }
     ensures closed { IfOk result (IsClosedIn (diagram_at store.now d)) }
 {
@@ -28,7 +30,7 @@ pub fn point_region(
     region_from(alloc, store, dim, d, point, 0)
 }
 
-/// The region of the point of a diagram of dimension `dim` whose heights are those from `at` on.
+/// The region of the path of a diagram of dimension `dim` whose heights are those from `at` on.
 #[cycle(points)]
 fn region_from(
     alloc: Global,
@@ -39,11 +41,11 @@ fn region_from(
     at: usize,
 ) -> Result<Region, AllocError>
     requires of_store { IsDiagramOf store.now d }
-    requires point { HasPoint dim (diagram_at store.now d) (drop at point.now) }
+    requires path { HasPath dim (diagram_at store.now d) (drop at point.now) }
     ensures { IfOk result (IsRegionValue dim (point_region_of dim (dia dim (diagram_at store.now d)) (drop at point.now))) }
 {
-    if dim == 0 {
-        return Ok(Region::All);
+    if at >= point.len() {
+        return whole_region(alloc, store, dim, d);
     }
     match point[at] {
         Height::R(j) => region_over_regular(alloc, store, dim - 1, d, point, at, j),
@@ -51,7 +53,7 @@ fn region_from(
     }
 }
 
-/// The region of a point over the regular height `j`.
+/// The region of a path over the regular height `j`.
 #[cycle(points)]
 fn region_over_regular(
     alloc: Global,
@@ -63,7 +65,7 @@ fn region_over_regular(
     j: usize,
 ) -> Result<Region, AllocError>
     requires of_store { IsDiagramOf store.now d }
-    requires point { HasPoint (suc below) (diagram_at store.now d) (Height.R j ∷ drop (at + 1) point.now) }
+    requires path { HasPath (suc below) (diagram_at store.now d) (Height.R j ∷ drop (at + 1) point.now) }
     requires at { at < length point.now }
     ensures { IfOk result (IsRegionValue (suc below)
         (point_region_of (suc below) (dia (suc below) (diagram_at store.now d)) (Height.R j ∷ drop (at + 1) point.now))) }
@@ -80,7 +82,7 @@ fn region_over_regular(
     })
 }
 
-/// The region of a point over the singular height `k`.
+/// The region of a path over the singular height `k`.
 #[cycle(points)]
 fn region_over_singular(
     alloc: Global,
@@ -92,7 +94,7 @@ fn region_over_singular(
     k: usize,
 ) -> Result<Region, AllocError>
     requires of_store { IsDiagramOf store.now d }
-    requires point { HasPoint (suc below) (diagram_at store.now d) (Height.S k ∷ drop (at + 1) point.now) }
+    requires path { HasPath (suc below) (diagram_at store.now d) (Height.S k ∷ drop (at + 1) point.now) }
     requires at { at < length point.now }
     ensures { IfOk result (IsRegionValue (suc below)
         (point_region_of (suc below) (dia (suc below) (diagram_at store.now d)) (Height.S k ∷ drop (at + 1) point.now))) }
