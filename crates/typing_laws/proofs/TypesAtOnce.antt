@@ -22,7 +22,7 @@ use Rattle.typing_laws.specs.Laws.{TypesPassAtOnce}
 use Rattle.typing_laws.proofs.Transfer.{tower_normal, above-minus}
 
 -- the normal form of a generator's type, from the type
-type_normal : (x : Label) (g : Generator) → generator_dim g ≡ x.dim
+pub type_normal : (x : Label) (g : Generator) → generator_dim g ≡ x.dim
     → normal_type x (Some g) ≡ dia_tree x.dim (normal_diagram x.dim (dia x.dim (type_of_generator x.number g)))
 unfolding normal_type normal_form type_tree on_diagram
 type_normal x None e =
