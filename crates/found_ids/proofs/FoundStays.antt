@@ -2,6 +2,7 @@
 use Rattle.std.proofs.Common.{◌≡◌, true, ◌⊎◌, sym, subst, ◌∙◌, inl, inr}
 use Rattle.std.proofs.lemmas.Bool.{cases_Bool, cond-true}
 use Rattle.std.specs.HashSet as set
+use Rattle.std.specs.HashSet.{HashSet}
 use Rattle.diagram_terms.specs.Tree.{Tree}
 use Rattle.hashcons.specs.declared.id.AnyId.{AnyId}
 use Rattle.hashcons.specs.Contents.{Contents, Grows}
@@ -13,14 +14,14 @@ use Rattle.found_ids.specs.declared.FoundIds.{FoundIds}
 use Rattle.found_ids.specs.FoundIds.{IsFound, HaveFound}
 
 -- a record with one more id
-module _ (old new : FoundIds) (k : AnyId) (up : set.Updates id_eq old.ids new.ids k true) where
-  pub kept : (x : AnyId) → IsFound old x → IsFound new x
+module _ {S : Type 0} (old new : HashSet AnyId S) (k : AnyId) (up : set.Updates id_eq old new k true) where
+  pub kept : (x : AnyId) → set.contains id_eq old x ≡ true → set.contains id_eq new x ≡ true
   kept x e = elim (cases_Bool (id_eq k x)) [
-    | inl h ↦ up.0 x ∙ cond-true (id_eq k x) true (set.contains id_eq old.ids x) h
+    | inl h ↦ up.0 x ∙ cond-true (id_eq k x) true (set.contains id_eq old x) h
     | inr h ↦ up.2 x h ∙ e
   ]
 
-  pub others : (x : AnyId) → IsFound new x → (x ≡ k) ⊎ IsFound old x
+  pub others : (x : AnyId) → set.contains id_eq new x ≡ true → (x ≡ k) ⊎ (set.contains id_eq old x ≡ true)
   others x e = elim (cases_Bool (id_eq k x)) [
     | inl h ↦ inl (sym ((id_decides k x).0 h))
     | inr h ↦ inr (sym (up.2 x h) ∙ e)
