@@ -1,0 +1,6 @@
+pub mod PartSteps
+pub mod GoodSlices
+pub mod PlaceLaws
+pub mod PutLists
+pub mod SegmentLists
+pub mod ValidPlainTrees

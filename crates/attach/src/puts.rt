@@ -114,6 +114,7 @@ fn heights_around(
     requires of_store { IsArrowOf store.now f }
     requires above { 0 < dimension_of (arrow_at store.now f) }
     requires order { start ≤ behind }
+    requires end { behind ≤ end }
     requires within { AreBelow (heights (arrow_at store.now f)) (behind - start) }
     ensures { IfOk result (λ hs. hs.items ≡ upto start ++ map (λ h. start + h) (heights (arrow_at store.now f))
         ++ range_with_len behind (end - behind)) }
@@ -127,6 +128,7 @@ fn heights_around(
 
 /// Adds the numbers from `from` on, before `to`.
 fn push_range(numbers: &mut SmallVec<usize, 4>, from: usize, to: usize) -> Result<(), AllocError>
+    requires { from ≤ to }
     ensures { OnOk result (numbers.new.items ≡ numbers.old.items ++ range_with_len from (to - from)) }
 {
     for i in from..to {

@@ -164,25 +164,25 @@ pub(crate) fn put_fwds(
     below: usize,
     at: &[usize],
     other: DiagramId,
-    regs: &[DiagramId],
-    sings: &[DiagramId],
+    regular: &[DiagramId],
+    singular: &[DiagramId],
 ) -> Result<SmallVec<ArrowId, 4>, AllocError>
     requires other { IsValidDiagram store.old other }
     requires above { 0 < dimension_of (diagram_at store.old other) }
-    requires regs { length regs.now ≡ suc (length (sings (diagram_at store.old other))) }
-    requires sings { length sings.now ≡ length (sings (diagram_at store.old other)) }
+    requires regular { length regular.now ≡ suc (length (sings (diagram_at store.old other))) }
+    requires singular { length singular.now ≡ length (sings (diagram_at store.old other)) }
     requires legs { (k : ℕ) → k < length (sings (diagram_at store.old other))
-        → CanPutBetween store.old below (slice_index regs.now k) (slice_index sings.now k) at.now
+        → CanPutBetween store.old below (slice_index regular.now k) (slice_index singular.now k) at.now
         (reg_at (diagram_at store.old other) k) (sing_at (diagram_at store.old other) k) (fwd_at (diagram_at store.old other) k) }
     requires store { IsStore store.old }
     ensures { MakesArrows store.old store.new (length (sings (diagram_at store.old other)))
-        (λ k. put_tree_at below (diagram_at store.old (slice_index regs.now k)) at.now
+        (λ k. put_tree_at below (diagram_at store.old (slice_index regular.now k)) at.now
         (reg_at (diagram_at store.old other) k) (sing_at (diagram_at store.old other) k) (fwd_at (diagram_at store.old other) k)) result }
 {
     let mut ids = SmallVec::new(alloc);
     for k in 0..store.length(other) {
         let leg = fwd_map(store, other, k);
-        ids.push(put_arrow(alloc, store, below, regs[k], sings[k], at, &leg)?)?;
+        ids.push(put_arrow(alloc, store, below, regular[k], singular[k], at, &leg)?)?;
     }
     Ok(ids)
 }
@@ -194,25 +194,25 @@ pub(crate) fn put_bwds(
     below: usize,
     at: &[usize],
     other: DiagramId,
-    regs: &[DiagramId],
-    sings: &[DiagramId],
+    regular: &[DiagramId],
+    singular: &[DiagramId],
 ) -> Result<SmallVec<ArrowId, 4>, AllocError>
     requires other { IsValidDiagram store.old other }
     requires above { 0 < dimension_of (diagram_at store.old other) }
-    requires regs { length regs.now ≡ suc (length (sings (diagram_at store.old other))) }
-    requires sings { length sings.now ≡ length (sings (diagram_at store.old other)) }
+    requires regular { length regular.now ≡ suc (length (sings (diagram_at store.old other))) }
+    requires singular { length singular.now ≡ length (sings (diagram_at store.old other)) }
     requires legs { (k : ℕ) → k < length (sings (diagram_at store.old other))
-        → CanPutBetween store.old below (slice_index regs.now (suc k)) (slice_index sings.now k) at.now
+        → CanPutBetween store.old below (slice_index regular.now (suc k)) (slice_index singular.now k) at.now
         (reg_at (diagram_at store.old other) (suc k)) (sing_at (diagram_at store.old other) k) (bwd_at (diagram_at store.old other) k) }
     requires store { IsStore store.old }
     ensures { MakesArrows store.old store.new (length (sings (diagram_at store.old other)))
-        (λ k. put_tree_at below (diagram_at store.old (slice_index regs.now (suc k))) at.now
+        (λ k. put_tree_at below (diagram_at store.old (slice_index regular.now (suc k))) at.now
         (reg_at (diagram_at store.old other) (suc k)) (sing_at (diagram_at store.old other) k) (bwd_at (diagram_at store.old other) k)) result }
 {
     let mut ids = SmallVec::new(alloc);
     for k in 0..store.length(other) {
         let leg = bwd_map(store, other, k);
-        ids.push(put_arrow(alloc, store, below, regs[k + 1], sings[k], at, &leg)?)?;
+        ids.push(put_arrow(alloc, store, below, regular[k + 1], singular[k], at, &leg)?)?;
     }
     Ok(ids)
 }

@@ -1,0 +1,8 @@
+use Rattle.std.specs.List.{slice_range}
+use Rattle.diagram_terms.specs.Tree.{bwds}
+use Rattle.hashcons.specs.Contents.{diagram_at}
+use Rattle.attach.specs.PartLists.{Picks}
+use Rattle.attach.proofs.reading.bwds_between.Given as goal
+
+abbrev pub invariant-loop-i : goal.invariant-loop-i
+invariant-loop-i l = Picks l.store.arrows l.ids.items (slice_range (bwds (diagram_at l.store l.d)) l.from l.i)
