@@ -1,8 +1,9 @@
 -- Parts of diagrams by ids: read, pasted, and held while the store grows.
 use Rattle.std.proofs.Common.{◌≡◌, ℕ, suc, ◌<◌, ◌≤◌, ◌+◌, ◌-◌, List, [], ◌∷◌, ◌++◌, ◌⊎◌, length, map, take, drop, get_or, refl, sym, ap, subst, ◌∙◌, arith, inl, inr, append_assoc, zero}
-use Rattle.std.specs.List.{slice_range}
+use Rattle.std.specs.List.{slice_range, range_with_len}
 use Rattle.std.proofs.Math.Seq.{take-suc}
-use Rattle.std.proofs.lemmas.List.{map-append, drop-map, length-drop, get_or-drop, length_push, get_or_append_left, get_or-append_right, get_or_push}
+use Rattle.std.proofs.lemmas.List.{map-append, drop-map, length-drop, get_or-drop, length_push, get_or_append_left, get_or-append_right, get_or_push, map-id, map_more}
+use Rattle.std.proofs.lemmas.List.FromFn.{map-range_with_len_more}
 use Rattle.smallvec.specs.SmallVec.{SmallVec}
 use Rattle.diagram_terms.specs.Dual.{AreBelow, tab}
 use Rattle.diagram_terms.specs.Nodes.{picked}
@@ -146,3 +147,35 @@ module _ (c : Contents) (l : TreeLists) (p : Parts) (node : DiagramNode) (h : Ha
 
   pub node_tree : described_diagram c node ≡ lists_tree l
   node_tree = ap (described_diagram c) is ∙ ap lists_tree h.lists
+
+-- ---- numbers
+
+-- one number more, of those from a on
+pub numbers-more : (xs : List ℕ) (a i : ℕ) → a ≤ i → (xs ++ range_with_len a (i - a)) ++ i ∷ [] ≡ xs ++ range_with_len a (i + 1 - a)
+numbers-more xs a i l =
+    let n = i - a in
+    let e : i + 1 - a ≡ n + 1 = omega arith in
+    let k : a + n ≡ i = omega arith in
+    let more : range_with_len a (n + 1) ≡ range_with_len a n ++ i ∷ [] =
+    sym (map-id (range_with_len a (n + 1))) ∙ map-range_with_len_more (λ h. h) a n i k ∙ ap (λ hs. hs ++ i ∷ []) (map-id (range_with_len a n))
+    in
+    append_assoc xs (range_with_len a n) (i ∷ []) ∙ ap (λ hs. xs ++ hs) (sym more) ∙ ap (λ m. xs ++ range_with_len a m) (sym e)
+
+-- one item more, under a function
+pub mapped-more : {X : Type 0} (f : ℕ → X) (xs : List X) (hs : List ℕ) (i h : ℕ) → i < length hs → h ≡ get_or hs i 0
+    → (xs ++ map f (take i hs)) ++ f h ∷ [] ≡ xs ++ map f (take (i + 1) hs)
+mapped-more f xs hs i h l e =
+    append_assoc xs (map f (take i hs)) (f h ∷ []) ∙ ap (λ k. xs ++ (map f (take i hs) ++ f k ∷ [])) e
+    ∙ ap (λ ys. xs ++ ys) (sym (map_more f hs i 0 l))
+
+-- ---- others in the place of a range
+
+-- ids that two loops have gathered around others
+module _ (ts xs : List Tree) (a : ℕ) (first second others : List ℕ) (p : Picks ts first (slice_range xs 0 a)) (q : AreBelow others (length ts))
+    (is : second ≡ first ++ others) where
+  pub around_first : Picks ts second (slice_range xs 0 a ++ picked ts others)
+  around_first = subst (λ (js : List ℕ). Picks ts js (slice_range xs 0 a ++ picked ts others)) (sym is) (picks-append ts first others _ _ p (picks-picked ts others q))
+
+  pub around_all : (b n : ℕ) (last : List ℕ) → Picks ts last (picked ts second ++ slice_range xs b n)
+      → Picks ts last (slice_range xs 0 a ++ picked ts others ++ slice_range xs b n)
+  around_all b n last r = subst (λ (us : List Tree). Picks ts last (us ++ slice_range xs b n)) around_first.are r

@@ -172,9 +172,10 @@ fn sings_around(
         ++ picked store.now.arrows others.now
         ++ slice_range (sings (arrow_at store.now a)) (start + length others.now) (length (sings (arrow_at store.now a))))) }
 {
+    let end = store.source_len(a);
     let mut ids = SmallVec::new(alloc);
     push_sings(store, &mut ids, a, 0, start)?;
     ids.extend_from_slice(others)?;
-    push_sings(store, &mut ids, a, start + others.len(), store.source_len(a))?;
+    push_sings(store, &mut ids, a, start + others.len(), end)?;
     Ok(ids)
 }

@@ -1,4 +1,5 @@
-use Rattle.std.proofs.Common.{◌++◌, [], ap, subst, sym, ◌∙◌, arith, append-nil}
+use Rattle.std.proofs.Common.{◌++◌, [], ap, subst, sym, ◌∙◌, arith}
+use Rattle.std.proofs.lemmas.List.{append-nil}
 use Rattle.diagram_terms.specs.Nodes.{picked}
 use Rattle.diagram_terms.specs.Tree.{sings}
 use Rattle.hashcons.specs.Contents.{arrow_at}

@@ -17,7 +17,7 @@ loop-i-init c =
 pub loop-i-preserved : goal.loop-i-preserved
 loop-i-preserved c =
     rw c.in_ok-push-2.ensures.ok
-    (picks-range_more c.args.store.now.diagrams _ [] _ c.args.from (c.loop-i.i + 1) c.reg-2.result c.loop-i.invariant (omega arith) (omega arith) c.reg-2.ensures.of_store c.reg-2.ensures.tree)
+    (picks-range_more c.args.store.now.diagrams _ [] _ c.args.from (c.loop-i.i + 1) c.reg-in-loop-i.result c.loop-i.invariant (omega arith) (omega arith) c.reg-in-loop-i.ensures.of_store c.reg-in-loop-i.ensures.tree)
 
 pub returns : goal.returns
 returns c =
