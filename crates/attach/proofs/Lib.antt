@@ -2,5 +2,6 @@ pub mod PartSteps
 pub mod GoodSlices
 pub mod PlaceLaws
 pub mod PutLists
+pub mod PutTrees
 pub mod SegmentLists
 pub mod ValidPlainTrees

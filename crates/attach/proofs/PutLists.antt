@@ -11,6 +11,7 @@ use Rattle.diagram_terms.specs.Family.{Dia, Arr, no_dia, reg, sing, height, arro
 use Rattle.diagram_terms.specs.Good.{GoodDiagram, GoodArrow}
 use Rattle.diagram_terms.specs.Occurrences.{swap, put, slices_swapped, slices_put, arrow_image, InsideZig, Inside}
 use Rattle.diagram_terms.specs.Tree.{Tree}
+use Rattle.diagram_terms.proofs.Duals.{length-upto, get-upto}
 use Rattle.plain_laws.proofs.Parallels.{parallel_is_symmetric}
 use Rattle.occurrence_laws.specs.Lists.{HasListsReplaced, HasListsReplacing}
 use Rattle.occurrence_laws.proofs.GoodParts.{good_reg, good_sing, good_ends}
@@ -31,9 +32,17 @@ shifted_range b a (suc n) =
 pub shifted_upto : (b n : ℕ) → map (λ h. b + h) (upto n) ≡ range_with_len b n
 shifted_upto b n = let e : b + 0 ≡ b = omega arith in shifted_range b 0 n ∙ ap (λ k. range_with_len k n) e
 
+map_same_on : {X : Type 0} (ns : List ℕ) (f g : ℕ → X) → ((k : ℕ) → k < length ns → f (get_or ns k 0) ≡ g (get_or ns k 0)) → map f ns ≡ map g ns
+map_same_on [] f g h = refl
+map_same_on (n ∷ ns) f g h = ap₂ ◌∷◌ (h 0 (omega arith)) (map_same_on ns f g (λ k l. h (suc k) (omega arith)))
+
 -- three lists, each under a function
 pub map-three : {X Y : Type 0} (f : X → Y) (xs ys zs : List X) → map f (xs ++ ys ++ zs) ≡ map f xs ++ map f ys ++ map f zs
 map-three f xs ys zs = map-append f (xs ++ ys) zs ∙ ap (λ ws. ws ++ map f zs) (map-append f xs ys)
+
+-- lists of two functions that agree
+pub same_tab : {X : Type 0} (n : ℕ) (f g : ℕ → X) → ((k : ℕ) → k < n → f k ≡ g k) → tab f n ≡ tab g n
+same_tab n f g h = map_same_on (range_with_len 0 n) f g (λ k l. let m = length-upto n in subst (λ (j : ℕ). f j ≡ g j) (sym (get-upto n k (omega arith))) (h k (omega arith)))
 
 module _ {X Y : Type 0} (f : X → Y) (xs : List X) where
   pub map-front : (k : ℕ) → map f (take k xs) ≡ slice_range (map f xs) 0 k
@@ -157,3 +166,19 @@ module _ (d : ℕ) (B : Dia (suc d)) (o : ℕ) (e : List ℕ) (S M : Dia (suc d)
   pub identity_sings : map (arr_tree d) (ident (suc d) B).sings ≡ map (λ x. arr_tree d (ident d x)) B.sings
   unfolding ident
   identity_sings = outside B.sings
+
+  -- the identities outside, and those slices between them
+  pub put_sings : map (arr_tree d) (put (suc d) B (o ∷ e) S M f).sings
+      ≡ slice_range (map (arr_tree d) (ident (suc d) B).sings) 0 o
+      ++ map (arr_tree d) (tab (λ k. put d (sing d B (o + k)) e (sing d S k) (sing d M (height d f k)) (arrow_sing d f k)) (length S.sings))
+      ++ slice_range (map (arr_tree d) (ident (suc d) B).sings) (o + length S.sings) (length B.sings)
+  put_sings =
+      let ids = λ (x : Dia d). arr_tree d (ident d x) in
+      let qs = (slices_put d (reg d B o) e (source d S) S M f).sings in
+      let same : qs ≡ tab slice_put (length S.sings) =
+      put_slices ∙ same_tab (length S.sings) _ _ (λ k l. ap (λ (X : Dia d). put d X e (sing d S k) (sing d M (height d f k)) (arrow_sing d f k)) (sym (part_sing k l)))
+      in
+      ap (map (arr_tree d)) has.sings
+      ∙ map-three (arr_tree d) (map (λ x. ident d x) (take o B.sings)) qs (map (λ x. ident d x) (drop end B.sings))
+      ∙ (λ i. (outside (take o B.sings) ∙ map-front ids B.sings o) i ++ map (arr_tree d) (same i) ++ (outside (drop end B.sings) ∙ map-tail ids B.sings end) i)
+      ∙ (λ i. slice_range (sym identity_sings i) 0 o ++ map (arr_tree d) (tab slice_put (length S.sings)) ++ slice_range (sym identity_sings i) end (length B.sings))
