@@ -3,8 +3,9 @@ ghost use Rattle.std.specs.List.{range_with_len};
 ghost use Rattle.diagram_terms.specs.Dimension.{dimension_of};
 ghost use Rattle.diagram_terms.specs.Dual.{AreBelow, upto};
 ghost use Rattle.diagram_terms.specs.Nodes.{picked};
+ghost use Rattle.diagram_terms.specs.Shape.{sing_at};
 ghost use Rattle.diagram_terms.specs.Tree.{heights, sings};
-ghost use Rattle.hashcons.specs.Contents.{IsArrowOf, IsStore, arrow_at, diagram_at};
+ghost use Rattle.hashcons.specs.Contents.{IsArrowOf, IsDiagramOf, IsStore, arrow_at, diagram_at};
 ghost use Rattle.hashcons.specs.Made.{MakesArrow, MakesArrows};
 ghost use Rattle.zigzag_maps.specs.Found.{IsValidMap};
 ghost use Rattle.attach.specs.PartLists.{Picks};
@@ -64,8 +65,9 @@ fn put_above(
     // the regular slices of a plain arrow are those of the identity of its target
     let like = identity(alloc, store, target)?;
     let start = at[0];
+    let end = store.length(target);
     let behind = start + store.target_len(f.arrow);
-    let heights = heights_around(alloc, store, f.arrow, start, behind, store.length(target))?;
+    let heights = heights_around(alloc, store, f.arrow, start, behind, end)?;
     let sings = sings_around(alloc, store, same.arrow, start, puts.as_slice())?;
     store.put_arrow_like(like.arrow, heights, sings)
 }
@@ -94,11 +96,23 @@ fn put_slices(
     let mut ids = SmallVec::new(alloc);
     for i in 0..store.source_len(f.arrow) {
         let slice = sing_slice(store, *f, i);
-        let from = store.sing(whole, start + i);
-        let to = store.sing(target, start + store.height(f.arrow, i));
+        let from = sing_from(store, whole, start, i);
+        let to = sing_from(store, target, start, store.height(f.arrow, i));
         ids.push(put_arrow(alloc, store, below, from, to, rest, &slice)?)?;
     }
     Ok(ids)
+}
+
+/// The singular slice of a diagram at the height `i`, counted from the height `start`.
+fn sing_from(store: &Store, d: DiagramId, start: usize, i: usize) -> DiagramId
+    requires of_store { IsDiagramOf store.now d }
+    requires within { start + i < length (sings (diagram_at store.now d)) }
+    ensures of_store { IsDiagramOf store.now result }
+    ensures tree { diagram_at store.now result ≡ sing_at (diagram_at store.now d) (start + i) }
+{
+    // the length bounds the sum
+    let _ = store.length(d);
+    store.sing(d, start + i)
 }
 
 /// The heights before `start`, those of an arrow behind these, and those from `behind` on, before
