@@ -1,3 +1,4 @@
+pub mod Failures
 pub mod PartSteps
 pub mod GoodSlices
 pub mod PlaceLaws

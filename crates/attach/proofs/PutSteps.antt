@@ -3,7 +3,9 @@ use Rattle.std.proofs.Common.{◌≡◌, ℕ, suc, ◌<◌, ◌≤◌, ◌+◌, 
 use Rattle.std.specs.List.{slice_range, range_with_len}
 use Rattle.smallvec.specs.SmallVec.{SmallVec}
 use Rattle.diagram_terms.specs.Cone.{Parallel}
-use Rattle.diagram_terms.specs.Decoded.{dia, arr}
+use Rattle.std.proofs.lemmas.List.{length-map}
+use Rattle.diagram_terms.specs.Composite.{ident}
+use Rattle.diagram_terms.specs.Decoded.{dia, arr, arr_tree}
 use Rattle.diagram_terms.specs.Dimension.{dimension_of, IsDiagramTree, IsArrowTree}
 use Rattle.diagram_terms.specs.Dual.{AreBelow, upto, tab}
 use Rattle.diagram_terms.specs.Nodes.{picked}
@@ -23,16 +25,11 @@ use Rattle.zigzag_maps.specs.MapTrees.{IsMapWith}
 use Rattle.zigzag_maps.proofs.KeptMaps.{valid_map-grows}
 use Rattle.attach.specs.PartLists.{Picks}
 use Rattle.attach.specs.Places.{IsGoodArrowAt, CanPutAt, CanPutBetween, swap_tree_at, put_tree_at, put_slice_at}
-use Rattle.attach.proofs.GoodSlices.{heights_count, height_in, arrow_regs_count}
+use Rattle.diagram_terms.proofs.Parts.{ident-sings_len}
+use Rattle.zigzag_maps.proofs.IdentitySlices.{identity_shape}
+use Rattle.attach.proofs.GoodSlices.{heights_count, height_in, arrow_regs_count, sings_held}
 use Rattle.attach.proofs.PlaceLaws.{can_put_same}
-use Rattle.attach.proofs.PutTrees.{offsets_nonempty, part_fits, put_target_good, target_count, put_slice_can, put_slice_leads, put_shape, put_described}
-
--- an error says only that the store grew
-pub arrow_error : {E : Type 0} (old new : Contents) (t : Tree) (e : E) → Grows old new → MakesArrow old new t (Err e)
-arrow_error old new t e g = record { grows = g; of_store = tt; tree = tt }
-
-pub arrows_error : {E : Type 0} (old new : Contents) (n : ℕ) (f : ℕ → Tree) (e : E) → Grows old new → MakesArrows old new n f (Err e)
-arrows_error old new n f e g = record { grows = g; gathers = tt }
+use Rattle.attach.proofs.PutTrees.{offsets_nonempty, part_fits, put_target_good, target_count, put_slice_can, put_slice_leads, put_shape, put_described, identity_sings_of}
 
 module _ (old now : Contents) (d whole target : ℕ) (at : List ℕ) (f : Map) (v : IsValidMap old f)
     (h : CanPutBetween old (suc d) whole target at (diagram_at old f.source) (diagram_at old f.target) (arrow_at old f.arrow)) (g : Grows old now) where
@@ -191,3 +188,81 @@ module _ (old now : Contents) (d whole target : ℕ) (at : List ℕ) (f : Map) (
 
       pub put_node_shape : IsArrowTree (described_like now like hs ss)
       put_node_shape = subst IsArrowTree (sym put_node) (put_shape d b at s m a h.put)
+
+-- ---- what the calls have made, one after the other
+
+module _ (E : Type 0) (old s1 s2 s3 : Contents) (d whole target : ℕ) (at : List ℕ) (f : Map) (v : IsValidMap old f)
+    (h : CanPutBetween old (suc d) whole target at (diagram_at old f.source) (diagram_at old f.target) (arrow_at old f.arrow))
+    (puts : SmallVec ℕ) (same like : Map)
+    (p : MakesArrows {E = E} old s1 (length (heights (arrow_at old f.arrow)))
+    (put_slice_at d (diagram_at old whole) (get_or at 0 0) (drop 1 at) (diagram_at old f.source) (diagram_at old f.target) (arrow_at old f.arrow)) (Ok puts))
+    (q : MakesMap {E = E} s1 s2 (identity_tree (diagram_at s1 whole)) (Ok same))
+    (r : MakesMap {E = E} s2 s3 (identity_tree (diagram_at s2 target)) (Ok like)) where
+  pub grown : Grows old s2
+  grown = Grows-trans old s1 s2 p.grows q.grows
+
+  pub all_grown : Grows old s3
+  all_grown = Grows-trans old s2 s3 grown r.grows
+
+  pub same_of : IsArrowOf s3 same.arrow
+  same_of = r.grows.arrows same.arrow q.of_store
+
+  same_tree : arrow_at s3 same.arrow ≡ identity_tree (diagram_at s3 whole)
+  same_tree =
+      r.grows.arrow_trees same.arrow q.of_store ∙ q.tree
+      ∙ ap identity_tree (p.grows.diagram_trees whole h.from_of_store ∙ sym (all_grown.diagram_trees whole h.from_of_store))
+
+  like_tree : arrow_at s3 like.arrow ≡ identity_tree (diagram_at s3 target)
+  like_tree = r.tree ∙ ap identity_tree (grown.diagram_trees target h.to_of_store ∙ sym (all_grown.diagram_trees target h.to_of_store))
+
+  whole_tree : diagram_at s3 whole ≡ diagram_at old whole
+  whole_tree = all_grown.diagram_trees whole h.from_of_store
+
+  pub same_above : 0 < dimension_of (arrow_at s3 same.arrow)
+  same_above =
+      let e = ap dimension_of (same_tree ∙ ap identity_tree whole_tree) in
+      let n = arrow_dimension (suc d) _ (identity_shape (suc d) (diagram_at old whole) h.put.whole.shape) in
+      omega arith
+
+  pub like_above : 0 < dimension_of (arrow_at s3 like.arrow)
+  like_above =
+      let t = swap_tree_at (suc d) (diagram_at old whole) at (diagram_at old f.source) (diagram_at old f.target) in
+      let is = all_grown.diagram_trees target h.to_of_store ∙ h.leads in
+      let e = ap dimension_of (like_tree ∙ ap identity_tree is) in
+      let n = arrow_dimension (suc d) _ (identity_shape (suc d) t (put_target_good d _ at _ _ _ h.put).shape) in
+      omega arith
+
+  gathered : Gathers s3.arrows puts.items (length (heights (arrow_at old f.arrow)))
+      (put_slice_at d (diagram_at old whole) (get_or at 0 0) (drop 1 at) (diagram_at old f.source) (diagram_at old f.target) (arrow_at old f.arrow))
+  gathered = gathers-arrows_grow s1 s3 puts.items _ _ (Grows-trans s1 s2 s3 q.grows r.grows) p.gathers
+
+  module _ (ids : List ℕ) (are : ids ≡ puts.items) where
+    pub puts_below : AreBelow ids (length s3.arrows)
+    puts_below = subst (λ (is : List ℕ). AreBelow is (length s3.arrows)) (sym are) (gathers-below s3.arrows puts.items _ _ gathered)
+
+    pub same_within : get_or at 0 0 + length ids ≤ length (sings (arrow_at s3 same.arrow))
+    same_within =
+        let b = diagram_at old whole in
+        let e = ap (λ (t : Tree). length (sings t)) (same_tree ∙ ap identity_tree whole_tree) in
+        let k = ap length (identity_sings_of d (dia (suc d) b) b h.put.whole.shape refl) in
+        let a = length-map (ident (suc d) (dia (suc d) b)).sings (arr_tree d) in
+        let i = ident-sings_len d (dia (suc d) b) in
+        let w = sings_held d b h.put.whole in
+        let n = ap length are in
+        let g = gathered.len in
+        let c = heights_count d (diagram_at old f.source) (diagram_at old f.target) (arrow_at old f.arrow) h.put.map in
+        let fits = part_fits d b at (diagram_at old f.source) (diagram_at old f.target) (arrow_at old f.arrow) h.put in
+        omega arith
+
+    module _ (long end : ℕ) (hs ss : List ℕ) (is : long + 1 ≡ length (regs (arrow_at s3 f.arrow))) (ends : end ≡ length (sings (diagram_at s3 target)))
+        (hs_are : hs ≡ upto (get_or at 0 0) ++ map (λ h. get_or at 0 0 + h) (heights (arrow_at s3 f.arrow)) ++ range_with_len (get_or at 0 0 + long) (end - (get_or at 0 0 + long)))
+        (ss_are : Picks s3.arrows ss (slice_range (sings (arrow_at s3 same.arrow)) 0 (get_or at 0 0) ++ picked s3.arrows ids
+        ++ slice_range (sings (arrow_at s3 same.arrow)) (get_or at 0 0 + length ids) (length (sings (arrow_at s3 same.arrow))))) where
+      pub described_put : described_like s3 like.arrow hs ss
+          ≡ put_tree_at (suc d) (diagram_at old whole) at (diagram_at old f.source) (diagram_at old f.target) (arrow_at old f.arrow)
+      described_put =
+          put_node old s3 d whole target at f v h all_grown (get_or at 0 0) refl long end like.arrow same.arrow hs ids ss is ends like_tree same_tree
+          (ap (picked s3.arrows) are ∙ gathers-picked s3.arrows puts.items _ _ gathered) hs_are ss_are.are
+
+      pub described_put_shape : IsArrowTree (described_like s3 like.arrow hs ss)
+      described_put_shape = subst IsArrowTree (sym described_put) (put_shape d _ at _ _ _ h.put)
