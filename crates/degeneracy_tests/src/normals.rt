@@ -111,8 +111,9 @@ pub(crate) fn is_noted(
     let map = map_of(alloc, store, nodes, places)?;
     let before = noted_form(alloc, store, &map);
     let normal = free_form(alloc, store, &map)?;
+    let made = (normal.map.source, normal.map.arrow);
     let after = noted_form(alloc, store, &map);
-    Ok(before.is_none() && after == Some((normal.map.source, normal.map.arrow)))
+    Ok(before.is_none() && after == Some(made))
 }
 
 /// Whether the composite of the identity of the source of a map with itself is noted once it was
