@@ -20,6 +20,9 @@ pub struct Lists {
     lists: IndexSet<SmallVec<usize, 1>>,
     // where the empty list was put last, so that it is not searched for
     empty: usize,
+    // where a list that is not empty was put last: the same one is often put again at once, and is
+    // then compared and not hashed
+    last: usize,
 }
 
 /// How many lists there are, and how many distinct blocks they have.
@@ -52,6 +55,7 @@ impl Lists {
             blocks: IndexSet::new(alloc),
             lists: IndexSet::new(alloc),
             empty: 0,
+            last: 0,
         }
     }
 
@@ -68,9 +72,23 @@ impl Lists {
         if items.is_empty() {
             return self.put_empty();
         }
+        if self.is_at(self.last, items) {
+            return Ok(self.last);
+        }
+        self.put_anew(items)
+    }
+
+    /// The number of a list, which is searched for, and put last where it is new.
+    fn put_anew(&mut self, items: &[usize]) -> Result<usize, AllocError>
+        ensures put { IfOk result (λ number. IsPut self.old self.new items.now number) }
+        ensures err { OnErr result (self.new ≡ self.old) }
+    {
         let held = self.blocks.len();
         match put_list(&mut self.blocks, &mut self.lists, items) {
-            Ok(number) => Ok(number),
+            Ok(number) => {
+                self.last = number;
+                Ok(number)
+            }
             Err(error) => {
                 self.blocks.truncate(held);
                 Err(error)
@@ -97,6 +115,27 @@ impl Lists {
         ensures { IsTrue result → slice_get self.now list ≡ Some [] }
     {
         list < self.lists.len() && self.len(list) == 0
+    }
+
+    /// Whether the list with this number has these entries.
+    fn is_at(&self, list: usize, items: &[usize]) -> bool
+        ensures { IsTrue result → slice_get self.now list ≡ Some items.now }
+    {
+        list < self.lists.len() && self.len(list) == items.len() && self.has_entries(list, items)
+    }
+
+    /// Whether a list that is as long as this one has its entries.
+    fn has_entries(&self, list: usize, items: &[usize]) -> bool
+        requires list { list < length self.now }
+        requires long { length (get_or self.now list []) ≡ length items.now }
+        ensures { IsTrue result → get_or self.now list [] ≡ items.now }
+    {
+        for at in 0..items.len() {
+            if self.at(list, at) != items[at] {
+                return false;
+            }
+        }
+        true
     }
 
     /// How many lists there are, and how many distinct blocks they have.

@@ -8,7 +8,7 @@ use Rattle.diagram_terms.specs.Shape.{IsDiagram}
 use Rattle.hashcons.specs.declared.id.AnyId.{AnyId}
 use Rattle.hashcons.specs.declared.id.AnyId.TheVariants as id
 use Rattle.hashcons.specs.Contents.{Contents, IsStore, IsDiagramOf, IsArrowOf, diagram_at, arrow_at}
-use Rattle.hashcons.specs.FoundIds.{id_eq}
+use Rattle.hashcons.specs.EqualIds.{id_eq}
 use Rattle.hashcons.specs.Ids.{IsOf, tree_of}
 
 -- no diagram of a store has the tree of an arrow

@@ -11,7 +11,6 @@ pub mod FirstSlices
 pub mod IdsOfTrees
 pub mod EmptyStore
 pub mod Growth
-pub mod FoundStays
 pub mod Layers
 pub mod PlacedIds
 pub mod ListingGrows

@@ -16,7 +16,7 @@ use Rattle.hashcons.specs.declared.id.AnyId.TheVariants as id
 use Rattle.hashcons.specs.Contents.{Contents, IsStore, diagram_at, arrow_at}
 use Rattle.hashcons.specs.Ids.{IsOf, tree_of, id_at}
 use Rattle.hashcons.specs.Listing.{AreOf, listed, IsListing, Visits}
-use Rattle.hashcons.specs.FoundIds.{id_eq}
+use Rattle.hashcons.specs.EqualIds.{id_eq}
 use Rattle.hashcons.proofs.IdsOfTrees.{id_decides, same_iff}
 
 -- ---- lists of ids of a store

@@ -9,7 +9,7 @@ use Rattle.hashcons.specs.declared.id.AnyId.TheVariants as id
 use Rattle.hashcons.specs.Ids.{id_at}
 use Rattle.hashcons.specs.Listing.{StandsIn, IsFirstPlace, AllStandIn, ArePlacesOf, diagram_ids, arrow_ids}
 use Rattle.hashcons.proofs.TableTrees.{slice_get-below}
-use Rattle.hashcons.specs.FoundIds.{id_eq}
+use Rattle.hashcons.specs.EqualIds.{id_eq}
 use Rattle.hashcons.proofs.IdsOfTrees.{id_decides}
 
 -- ---- the place that the look-up finds

@@ -1,6 +1,6 @@
 pub mod Contents
 pub mod Entries
-pub mod FoundIds
+pub mod EqualIds
 pub mod Gathers
 pub mod Ids
 pub mod Listing

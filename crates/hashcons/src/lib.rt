@@ -3,7 +3,6 @@
 
 mod completion;
 mod fill;
-mod found;
 mod id;
 mod laws;
 mod list;
@@ -16,7 +15,6 @@ mod store;
 mod tables;
 mod view;
 
-pub use found::FoundIds;
 pub use id::{AnyId, ArrowId, DiagramId};
 pub use laws::lists_each_once;
 pub use node::{ArrowNode, DiagramNode};

@@ -40,7 +40,7 @@ pub(crate) fn singular_key(
     let target = store.sing(key.target, k);
     let fwd = fwd_map(store, key.target, k);
     let bwd = bwd_map(store, key.target, k);
-    let mut ways = slices_over(alloc, store, key, k)?;
+    let mut ways = slices_over(alloc, store, key, k, next)?;
     let (source, arrow) = form_at(forms, k);
     let before = way(alloc, store, fwd, source, arrow)?;
     let (last, last_arrow) = form_at(forms, next);

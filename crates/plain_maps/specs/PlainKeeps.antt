@@ -1,6 +1,6 @@
 -- What is kept of the arrows and diagrams of a store is right.
 use Rattle.hashcons.specs.Contents.{Contents}
-use Rattle.hashcons.specs.FoundIds.{HaveFound}
+use Rattle.found_ids.specs.FoundIds.{HaveFound}
 use Rattle.plain_maps.specs.declared.plain_kept.PlainKept.{PlainKept}
 use Rattle.plain_maps.specs.Plainness.{IsPlainTree, IsIdentityTree, plain_tests_in}
 use Rattle.zigzag_maps.specs.Walks.{PassesTests}

@@ -1,4 +1,4 @@
-use hashcons::FoundIds;
+use found_ids::FoundIds;
 use std::alloc::Global;
 
 /// What was found out about a store that is only read, so that no call looks at one thing twice:

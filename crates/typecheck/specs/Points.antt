@@ -2,9 +2,9 @@
 use Rattle.std.specs.Prelude.{◌≡◌, ℕ, List, map, Option, None, option_map}
 use Rattle.diagram_terms.specs.Points.{Point}
 use Rattle.diagram_terms.specs.Typing.{Generator, generator_dim}
-use Rattle.hashcons.specs.declared.found.FoundIds.{FoundIds}
+use Rattle.found_ids.specs.declared.FoundIds.{FoundIds}
 use Rattle.hashcons.specs.Contents.{Contents}
-use Rattle.hashcons.specs.FoundIds.{HaveFound}
+use Rattle.found_ids.specs.FoundIds.{HaveFound}
 use Rattle.typecheck.specs.declared.points.FailingPoint.{FailingPoint}
 use Rattle.typecheck.specs.Walk.{failing_in, point_of}
 

@@ -8,7 +8,8 @@ ghost use Rattle.typecheck.specs.Points.{Finds, HavePassed, OfAll};
 ghost use Rattle.typecheck.specs.Walk.{may_stand, failing_in, failing_at_reg, failing_at_sing, point_of, fault_over};
 
 use diagram_terms::{Fault, Height, Items, Label};
-use hashcons::{AnyId, DiagramId, FoundIds, Store};
+use found_ids::FoundIds;
+use hashcons::{AnyId, DiagramId, Store};
 use std::alloc::{AllocError, Global};
 
 /// What the label at each point of a diagram has to be: a generator's, of dimension at most the

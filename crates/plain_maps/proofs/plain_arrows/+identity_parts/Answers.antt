@@ -4,7 +4,7 @@ use Rattle.diagram_terms.specs.Tree.{sings}
 use Rattle.diagram_terms.specs.Shape.{sing_at}
 use Rattle.hashcons.specs.declared.id.AnyId.TheVariants as id
 use Rattle.hashcons.specs.Contents.{arrow_at}
-use Rattle.hashcons.proofs.FoundStays.{one_more_found}
+use Rattle.found_ids.proofs.FoundStays.{one_more_found}
 use Rattle.plain_maps.specs.Plainness.{IsIdentityTree, HasIdentitySings}
 use Rattle.plain_maps.proofs.PlainSlices.{identity_decides, identity_heights_fail, identity_regs_fail, sings_len, arrow_reg_slice, arrow_sing_slice, one_fails, all_pass}
 use Rattle.plain_maps.proofs.plain_arrows.+identity_parts.Goals as goal
@@ -82,14 +82,14 @@ sings_are_identities-returns-clause-exact t c =
 -- ---- an arrow, looked at once
 
 pub is_identity_once-returns-then-has-clause-exact : goal.is_identity_once-returns-then-has-clause-exact
-is_identity_once-returns-then-has-clause-exact t c = (λ yes. c.requires.kept.identities.are (id.Arrow c.args.a) (c.has.ensures c.if-has.true), λ p. refl)
+is_identity_once-returns-then-has-clause-exact t c = (λ yes. c.requires.kept.identities.are (id.Arrow c.args.a) (c.has.ensures.0 c.if-has.true), λ p. refl)
 
 pub is_identity_once-returns-in_err-keep-clause-kept : goal.is_identity_once-returns-in_err-keep-clause-kept
 is_identity_once-returns-in_err-keep-clause-kept t c =
     let made = c.in_ok-has_identity_parts.ensures in
     record {
       arrows = made.kept.arrows;
-      identities = one_more_found _ IsIdentityTree _ _ _ made.kept.identities c.keep.ensures c.requires.arrow.of_store (made.exact.0 c.if-not-branch.false);
+      identities = one_more_found _ IsIdentityTree _ _ _ made.kept.identities c.keep.ensures.others c.requires.arrow.of_store (made.exact.0 c.if-not-branch.false);
       passed = made.kept.passed;
     }
 
@@ -98,6 +98,6 @@ is_identity_once-returns-clause-kept t c =
     let made = c.in_ok-has_identity_parts.ensures in
     record {
       arrows = made.kept.arrows;
-      identities = one_more_found _ IsIdentityTree _ _ _ made.kept.identities c.keep.ensures c.requires.arrow.of_store (made.exact.0 c.if-not-branch.false);
+      identities = one_more_found _ IsIdentityTree _ _ _ made.kept.identities c.keep.ensures.others c.requires.arrow.of_store (made.exact.0 c.if-not-branch.false);
       passed = made.kept.passed;
     }

@@ -4,7 +4,7 @@ use Rattle.diagram_terms.specs.Tree.{sings}
 use Rattle.diagram_terms.specs.Shape.{sing_at}
 use Rattle.hashcons.specs.declared.id.AnyId.TheVariants as id
 use Rattle.hashcons.specs.Contents.{arrow_at}
-use Rattle.hashcons.proofs.FoundStays.{one_more_found}
+use Rattle.found_ids.proofs.FoundStays.{one_more_found}
 use Rattle.plain_maps.specs.Plainness.{IsPlainTree, HasPlainSings}
 use Rattle.plain_maps.proofs.PlainSlices.{plain_zero, plain_decides, plain_regs_fail, sings_len, arrow_sing_slice, one_fails, all_pass}
 use Rattle.plain_maps.proofs.plain_arrows.+plain_parts.Goals as goal
@@ -54,13 +54,13 @@ sings_are_plain-returns-clause-exact t c =
     all_pass IsPlainTree (sing_at u) (length (sings u)) (λ i l. c.loop-i.invariant.passed i (omega arith))
 
 pub is_plain_once-returns-then-has-clause-exact : goal.is_plain_once-returns-then-has-clause-exact
-is_plain_once-returns-then-has-clause-exact t c = (λ yes. c.requires.kept.arrows.are (id.Arrow c.args.a) (c.has.ensures c.if-has.true), λ p. refl)
+is_plain_once-returns-then-has-clause-exact t c = (λ yes. c.requires.kept.arrows.are (id.Arrow c.args.a) (c.has.ensures.0 c.if-has.true), λ p. refl)
 
 pub is_plain_once-returns-in_err-keep-clause-kept : goal.is_plain_once-returns-in_err-keep-clause-kept
 is_plain_once-returns-in_err-keep-clause-kept t c =
     let made = c.in_ok-has_plain_parts.ensures in
     record {
-      arrows = one_more_found _ IsPlainTree _ _ _ made.kept.arrows c.keep.ensures c.requires.arrow.of_store (made.exact.0 c.if-not-branch.false);
+      arrows = one_more_found _ IsPlainTree _ _ _ made.kept.arrows c.keep.ensures.others c.requires.arrow.of_store (made.exact.0 c.if-not-branch.false);
       identities = made.kept.identities;
       passed = made.kept.passed;
     }
@@ -69,7 +69,7 @@ pub is_plain_once-returns-clause-kept : goal.is_plain_once-returns-clause-kept
 is_plain_once-returns-clause-kept t c =
     let made = c.in_ok-has_plain_parts.ensures in
     record {
-      arrows = one_more_found _ IsPlainTree _ _ _ made.kept.arrows c.keep.ensures c.requires.arrow.of_store (made.exact.0 c.if-not-branch.false);
+      arrows = one_more_found _ IsPlainTree _ _ _ made.kept.arrows c.keep.ensures.others c.requires.arrow.of_store (made.exact.0 c.if-not-branch.false);
       identities = made.kept.identities;
       passed = made.kept.passed;
     }

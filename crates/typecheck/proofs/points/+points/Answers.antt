@@ -2,7 +2,7 @@ use Rattle.std.proofs.Common.{◌≡◌, None, option_map, sym, ap, ◌∙◌, r
 use Rattle.hashcons.specs.declared.id.AnyId.TheVariants as id
 use Rattle.hashcons.specs.Contents.{diagram_at}
 use Rattle.zigzag_maps.proofs.ValiditySteps.{reg_slice, sing_slice}
-use Rattle.hashcons.proofs.FoundStays.{one_more_found}
+use Rattle.found_ids.proofs.FoundStays.{one_more_found}
 use Rattle.typecheck.specs.Points.{OfAll}
 use Rattle.typecheck.specs.Walk.{failing_in, point_of}
 use Rattle.typecheck.proofs.PointVisits.{visit_start, visit_reg, visit_sing, visit_passes}
@@ -11,20 +11,20 @@ use Rattle.typecheck.proofs.points.+points.Goals as goal
 -- ---- a diagram, looked at once
 
 pub failing_point-returns-then-has-clause-exact : goal.failing_point-returns-then-has-clause-exact
-failing_point-returns-then-has-clause-exact t c = λ generators h. sym (c.requires.passed.are (id.Diagram c.args.d) (c.has.ensures c.if-has.true) generators h)
+failing_point-returns-then-has-clause-exact t c = λ generators h. sym (c.requires.passed.are (id.Diagram c.args.d) (c.has.ensures.0 c.if-has.true) generators h)
 
 pub failing_point-returns-in_err-keep-clause-passed : goal.failing_point-returns-in_err-keep-clause-passed
 failing_point-returns-in_err-keep-clause-passed t c =
     let made = c.in_ok-point.ensures in
     let dims = c.args.test.now.dims.now in
-    one_more_found _ (λ u. OfAll dims (λ generators. failing_in generators c.args.test.now.outer u ≡ None)) _ _ _ made.passed c.keep.ensures c.requires.diagram.of_store
+    one_more_found _ (λ u. OfAll dims (λ generators. failing_in generators c.args.test.now.outer u ≡ None)) _ _ _ made.passed c.keep.ensures.others c.requires.diagram.of_store
     (λ generators h. sym (made.exact generators h) ∙ ap (option_map point_of) c.in_default.is)
 
 pub failing_point-returns-clause-passed : goal.failing_point-returns-clause-passed
 failing_point-returns-clause-passed t c =
     let made = c.in_ok-point.ensures in
     let dims = c.args.test.now.dims.now in
-    one_more_found _ (λ u. OfAll dims (λ generators. failing_in generators c.args.test.now.outer u ≡ None)) _ _ _ made.passed c.keep.ensures c.requires.diagram.of_store
+    one_more_found _ (λ u. OfAll dims (λ generators. failing_in generators c.args.test.now.outer u ≡ None)) _ _ _ made.passed c.keep.ensures.others c.requires.diagram.of_store
     (λ generators h. sym (made.exact generators h) ∙ ap (option_map point_of) c.in_default.is)
 
 -- ---- height by height

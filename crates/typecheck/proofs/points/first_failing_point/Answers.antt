@@ -1,6 +1,6 @@
 use Rattle.std.proofs.Common.{◌≡◌, None, ap, ◌∙◌}
 use Rattle.hashcons.specs.Contents.{diagram_at}
-use Rattle.hashcons.proofs.FoundStays.{none_found}
+use Rattle.found_ids.proofs.FoundStays.{none_found}
 use Rattle.typecheck.specs.Points.{OfAll}
 use Rattle.typecheck.specs.Walk.{failing_in, fault_over}
 use Rattle.typecheck.proofs.FaultSteps.{point_tells}

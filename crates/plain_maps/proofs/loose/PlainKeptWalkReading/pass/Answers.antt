@@ -1,4 +1,4 @@
-use Rattle.hashcons.proofs.FoundStays.{one_more_found}
+use Rattle.found_ids.proofs.FoundStays.{one_more_found}
 use Rattle.zigzag_maps.specs.Walks.{PassesTests}
 use Rattle.plain_maps.specs.Plainness.{plain_tests_in}
 use Rattle.plain_maps.proofs.loose.PlainKeptWalkReading.pass.Goals as goal
@@ -9,5 +9,5 @@ returns-clause-right c =
     record {
       arrows = right.arrows;
       identities = right.identities;
-      passed = one_more_found _ (PassesTests plain_tests_in) _ _ _ right.passed c.keep.ensures c.requires.diagram.of_store c.requires.passes;
+      passed = one_more_found _ (PassesTests plain_tests_in) _ _ _ right.passed c.keep.ensures.others c.requires.diagram.of_store c.requires.passes;
     }

@@ -1,4 +1,4 @@
-use Rattle.hashcons.proofs.FoundStays.{none_found}
+use Rattle.found_ids.proofs.FoundStays.{none_found}
 use Rattle.plain_maps.specs.Plainness.{IsPlainTree, IsIdentityTree, plain_tests_in}
 use Rattle.zigzag_maps.specs.Walks.{PassesTests}
 use Rattle.plain_maps.proofs.plain_kept.PlainKept.new.Goals as goal

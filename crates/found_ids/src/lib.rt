@@ -1,4 +1,7 @@
-use crate::id::AnyId;
+//! Records of the ids of a store of which one thing was found out.
+#![tactic(auto)]
+
+use hashcons::AnyId;
 use std::alloc::{AllocError, Global};
 use std::collections::HashSet;
 
@@ -10,9 +13,9 @@ pub struct FoundIds {
 }
 
 impl FoundIds {
-    ghost use Rattle.std.specs.Prelude.{◌≡◌, ◌⊎◌, IsTrue};
+    ghost use Rattle.std.specs.Prelude.{◌≡◌, ◌⊎◌, ◌↔◌, IsTrue, OnOk, OnErr};
     ghost use Rattle.hashcons.specs.declared.id.AnyId.{AnyId};
-    ghost use Rattle.hashcons.specs.FoundIds.{IsFound};
+    ghost use Rattle.found_ids.specs.FoundIds.{IsFound, HoldSame};
 
     /// Of no id yet. It takes no memory.
     pub fn new(alloc: Global) -> FoundIds
@@ -25,14 +28,17 @@ impl FoundIds {
 
     /// Whether it was found out of `id`.
     pub fn has(&self, id: AnyId) -> bool
-        ensures { IsTrue result → IsFound self.now id }
+        ensures { IsTrue result ↔ IsFound self.now id }
     {
         self.ids.contains(&id)
     }
 
     /// It was found out of `id`.
     pub fn keep(&mut self, id: AnyId) -> Result<(), AllocError>
-        ensures { (x : AnyId) → IsFound self.new x → (x ≡ id) ⊎ IsFound self.old x }
+        ensures added { OnOk result (IsFound self.new id) }
+        ensures kept { (x : AnyId) → IsFound self.old x → IsFound self.new x }
+        ensures others { (x : AnyId) → IsFound self.new x → (x ≡ id) ⊎ IsFound self.old x }
+        ensures err { OnErr result (HoldSame self.new self.old) }
     {
         self.ids.insert(id)?;
         Ok(())

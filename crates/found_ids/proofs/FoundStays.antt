@@ -1,23 +1,30 @@
--- What was found out of ids stays so when one more is found, and when the store grows.
-use Rattle.std.proofs.Common.{◌≡◌, Bool, true, ◌⊎◌, sym, subst, ◌∙◌, inl, inr}
-use Rattle.std.proofs.lemmas.Bool.{cases_Bool, cond-false}
+-- A record with one more id, and that what was found out of ids stays so when one more is found, and when the store grows.
+use Rattle.std.proofs.Common.{◌≡◌, true, ◌⊎◌, sym, subst, ◌∙◌, inl, inr}
+use Rattle.std.proofs.lemmas.Bool.{cases_Bool, cond-true}
 use Rattle.std.specs.HashSet as set
 use Rattle.std.specs.HashSet.{HashSet}
 use Rattle.diagram_terms.specs.Tree.{Tree}
 use Rattle.hashcons.specs.declared.id.AnyId.{AnyId}
-use Rattle.hashcons.specs.declared.found.FoundIds.{FoundIds}
 use Rattle.hashcons.specs.Contents.{Contents, Grows}
-use Rattle.hashcons.specs.FoundIds.{IsFound, HaveFound}
+use Rattle.hashcons.specs.EqualIds.{id_eq}
 use Rattle.hashcons.specs.Ids.{IsOf, tree_of}
+use Rattle.hashcons.proofs.IdsOfTrees.{id_decides}
 use Rattle.hashcons.proofs.PlacedIds.{id-kept}
+use Rattle.found_ids.specs.declared.FoundIds.{FoundIds}
+use Rattle.found_ids.specs.FoundIds.{IsFound, HaveFound}
 
--- a set with one more key
-module _ {K S : Type 0} (eq : K → K → Bool) (exact : (x y : K) → eq x y ≡ true → x ≡ y) where
-  pub set_more : (P : K → Type 0) (old new : HashSet K S) (k : K) → set.Updates eq old new k true
-      → ((q : K) → set.contains eq old q ≡ true → P q) → P k → (q : K) → set.contains eq new q ≡ true → P q
-  set_more P old new k up all p q e = elim (cases_Bool (eq k q)) [
-    | inl h ↦ subst P (exact k q h) p
-    | inr h ↦ all q (sym (cond-false (eq k q) true (set.contains eq old q) h) ∙ sym (up.0 q) ∙ e)
+-- a record with one more id
+module _ {S : Type 0} (old new : HashSet AnyId S) (k : AnyId) (up : set.Updates id_eq old new k true) where
+  pub kept : (x : AnyId) → set.contains id_eq old x ≡ true → set.contains id_eq new x ≡ true
+  kept x e = elim (cases_Bool (id_eq k x)) [
+    | inl h ↦ up.0 x ∙ cond-true (id_eq k x) true (set.contains id_eq old x) h
+    | inr h ↦ up.2 x h ∙ e
+  ]
+
+  pub others : (x : AnyId) → set.contains id_eq new x ≡ true → (x ≡ k) ⊎ (set.contains id_eq old x ≡ true)
+  others x e = elim (cases_Bool (id_eq k x)) [
+    | inl h ↦ inl (sym ((id_decides k x).0 h))
+    | inr h ↦ inr (sym (up.2 x h) ∙ e)
   ]
 
 module _ (c : Contents) (P : Tree → Type 0) where

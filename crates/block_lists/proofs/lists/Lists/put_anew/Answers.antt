@@ -2,9 +2,10 @@ use Rattle.std.proofs.Common.{◌≡◌, ◌∙◌, take, sym, subst, ap, ap₂}
 use Rattle.std.proofs.lemmas.List.{take-map}
 use Rattle.block_lists.specs.Blocks.{AreInBlocks, items_of, lists_in}
 use Rattle.block_lists.proofs.Blocks.{PutsIn, puts_in}
-use Rattle.block_lists.proofs.lists.Lists.put.Goals as goal
+use Rattle.block_lists.proofs.lists.Lists.put_anew.Goals as goal
+use Rattle.block_lists.proofs.lists.Lists.put_anew.Goals.{After-self-1}
 
-puts : (c : goal.In-Ok) → PutsIn (items_of c.self.inside.blocks.keys) (items_of c.put_list.new.blocks.keys)
+puts : (c : After-self-1) → PutsIn (items_of c.self.inside.blocks.keys) (items_of c.put_list.new.blocks.keys)
     (items_of c.self.inside.lists.keys) (items_of c.put_list.new.lists.keys) c.args.items.now c.in-Ok.number
 puts c =
     puts_in (items_of c.self.inside.blocks.keys) (items_of c.put_list.new.blocks.keys) (items_of c.self.inside.lists.keys)
