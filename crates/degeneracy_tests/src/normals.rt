@@ -90,10 +90,14 @@ pub(crate) fn stays_the_same(
     Ok(store.storage() == before)
 }
 
-/// The source and the arrow that are noted as the normal form of the target of a map, with no legs.
-fn noted_form(alloc: Global, store: &Store, map: &Map) -> Option<(DiagramId, ArrowId)> {
+/// The source and the arrow that are noted as the normal form of a diagram, with no legs.
+fn noted_form(
+    alloc: Global,
+    store: &Store,
+    target: DiagramId,
+) -> Option<(DiagramId, ArrowId)> {
     let key = NormalKey {
-        target: map.target,
+        target,
         legs: SmallVec::new(alloc),
     };
     let known = store.known_normal(&key)?;
@@ -109,10 +113,10 @@ pub(crate) fn is_noted(
 ) -> Result<bool, Fail> {
     let alloc = store.allocator();
     let map = map_of(alloc, store, nodes, places)?;
-    let before = noted_form(alloc, store, &map);
+    let before = noted_form(alloc, store, map.target);
     let normal = free_form(alloc, store, &map)?;
     let made = (normal.map.source, normal.map.arrow);
-    let after = noted_form(alloc, store, &map);
+    let after = noted_form(alloc, store, map.target);
     Ok(before.is_none() && after == Some(made))
 }
 
