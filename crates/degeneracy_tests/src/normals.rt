@@ -91,11 +91,7 @@ pub(crate) fn stays_the_same(
 }
 
 /// The source and the arrow that are noted as the normal form of a diagram, with no legs.
-fn noted_form(
-    alloc: Global,
-    store: &Store,
-    target: DiagramId,
-) -> Option<(DiagramId, ArrowId)> {
+fn noted_form(alloc: Global, store: &Store, target: DiagramId) -> Option<(DiagramId, ArrowId)> {
     let key = NormalKey {
         target,
         legs: SmallVec::new(alloc),
