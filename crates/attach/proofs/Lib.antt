@@ -7,3 +7,4 @@ pub mod PutTrees
 pub mod PutSteps
 pub mod SegmentLists
 pub mod ValidPlainTrees
+pub mod MadePieces
