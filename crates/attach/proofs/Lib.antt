@@ -8,3 +8,4 @@ pub mod PutSteps
 pub mod SegmentLists
 pub mod ValidPlainTrees
 pub mod MadePieces
+pub mod JoinedMaps
