@@ -9,3 +9,5 @@ pub mod SegmentLists
 pub mod ValidPlainTrees
 pub mod MadePieces
 pub mod JoinedMaps
+pub mod SwapSteps
+pub mod SwapTrees

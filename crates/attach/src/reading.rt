@@ -1,4 +1,4 @@
-ghost use Rattle.std.specs.Prelude.{◌≡◌, ◌++◌, ◌<◌, ◌≤◌, IfOk, OnOk, length, suc, slice_range};
+ghost use Rattle.std.specs.Prelude.{◌≡◌, ◌++◌, ◌+◌, ◌<◌, ◌≤◌, IfOk, OnOk, length, suc, slice_range};
 ghost use Rattle.diagram_terms.specs.Dimension.{dimension_of};
 ghost use Rattle.diagram_terms.specs.Tree.{regs, sings, fwds, bwds};
 ghost use Rattle.diagram_terms.specs.Nodes.{picked};
@@ -115,4 +115,16 @@ pub(crate) fn push_sings(
         ids.push(store.arrow_sing(a, i))?;
     }
     Ok(())
+}
+
+/// Where a part of a diagram that begins at `start` ends.
+pub(crate) fn part_end(store: &Store, whole: DiagramId, start: usize, part: DiagramId) -> usize
+    requires whole { IsDiagramOf store.now whole }
+    requires part { IsDiagramOf store.now part }
+    requires fits { start + length (sings (diagram_at store.now part)) ≤ length (sings (diagram_at store.now whole)) }
+    ensures { result ≡ start + length (sings (diagram_at store.now part)) }
+{
+    // the length of the diagram bounds the sum
+    let _ = store.length(whole);
+    start + store.length(part)
 }

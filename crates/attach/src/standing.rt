@@ -10,6 +10,7 @@ ghost use Rattle.attach.specs.PartLists.{ArePartsOf};
 ghost use Rattle.attach.specs.Places.{BeginsInside, CanPutBetween, CanSwapSlices, Stands, image_lists, put_tree_at};
 
 use crate::parts::Parts;
+use crate::reading::part_end;
 use crate::swaps::{put_bwds, put_fwds, swapped_regs, swapped_sings};
 use hashcons::{ArrowId, DiagramId, Store};
 use std::alloc::{AllocError, Global};
@@ -35,7 +36,8 @@ pub(crate) fn stands(
 {
     let slice = store.reg(whole, start);
     let first = store.reg(part, 0);
-    let there = Parts::between(alloc, store, whole, start, start + store.length(part))?;
+    let end = part_end(store, whole, start, part);
+    let there = Parts::between(alloc, store, whole, start, end)?;
     if !slices_stand(alloc, store, below, slice, at, first, part, &there)? {
         return Ok(false);
     }

@@ -10,6 +10,7 @@ ghost use Rattle.attach.specs.Places.{CanPutBetween, CanSwapAt, CanSwapSlices, i
 
 use crate::parts::Parts;
 use crate::puts::put_arrow;
+use crate::reading::part_end;
 use crate::replacement::put_replaced;
 use hashcons::{ArrowId, DiagramId, Store};
 use smallvec::SmallVec;
@@ -63,8 +64,9 @@ fn swapped_above(
     let start = at[0];
     let slice = store.reg(whole, start);
     let first = store.reg(part, 0);
+    let end = part_end(store, whole, start, part);
     let image = image_of(alloc, store, below, slice, &at[1..], first, other)?;
-    put_replaced(alloc, store, whole, start, start + store.length(part), image)
+    put_replaced(alloc, store, whole, start, end, image)
 }
 
 /// The slices and legs of a diagram that begins with `first`, each put in the place of `first` in
