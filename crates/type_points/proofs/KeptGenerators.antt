@@ -30,7 +30,7 @@ module _ (old new : Contents) (bs : List (Option (ℕ × ℕ))) (dims : List ℕ
   pub generators-grow : AreGeneratorsOf new bs dims
   generators-grow = record {
     of_store = λ i l. boundary-grows old new (get_or bs i None) g (h.of_store i l);
-    dims = ap (map generator_dim) generators_kept ∙ h.dims;
+    dimensions = ap (map generator_dim) generators_kept ∙ h.dimensions;
     good = subst IsFullyGoodSignature (sym generators_kept) h.good;
   }
 

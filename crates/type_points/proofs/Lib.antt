@@ -1,7 +1,7 @@
 pub mod HeightLoops
 pub mod KeptGenerators
 pub mod GeneratorSteps
-pub mod Identities
+pub mod IdentitySteps
 pub mod NormalTrees
 pub mod TypeForms
 pub mod CutTrees

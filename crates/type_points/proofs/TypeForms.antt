@@ -1,5 +1,5 @@
 -- Whether a diagram has the normal form of a type under identities, by the trees that are compared.
-use Rattle.std.proofs.Common.{◌≡◌, ◌↔◌, ℕ, zero, suc, ◌+◌, ◌-◌, ◌<◌, ◌≤◌, List, Bool, true, false, ◌&&◌, cond, Option, None, Some, slice_get, refl, sym, ap, ◌∙◌, subst, arith, inl, inr}
+use Rattle.std.proofs.Common.{◌≡◌, ◌↔◌, ℕ, zero, suc, ◌+◌, ◌-◌, ◌<◌, ◌≤◌, List, [], Bool, true, false, ◌&&◌, cond, Option, None, Some, slice_get, refl, sym, ap, ◌∙◌, subst, arith, inl, inr}
 use Rattle.std.specs.Bool.{Decides}
 use Rattle.std.proofs.lemmas.Bool.{cases_Bool, cond-true, cond-false, le-leb, lt-leb}
 use Rattle.std.proofs.lemmas.Bool.Decides.{same_from_decides}
@@ -22,7 +22,7 @@ use Rattle.normal_form_laws.proofs.SameDiagrams.{same_diagrams_are_decided}
 use Rattle.typing_laws.proofs.GoodGenerators.{IsGeneratorAt}
 use Rattle.typing_laws.proofs.TypesAtOnce.{type_normal, types_pass_at_once}
 use Rattle.type_points.specs.TypeTrees.{normal_diagram_tree, under_identities_tree}
-use Rattle.type_points.proofs.Identities.{under_at}
+use Rattle.type_points.proofs.IdentitySteps.{under_at}
 use Rattle.type_points.proofs.NormalTrees.{normal_tree_at}
 
 -- ---- what a verdict says of a label

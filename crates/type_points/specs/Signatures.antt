@@ -27,5 +27,5 @@ IsBoundaryOf c (Some (s, t)) = AreEndsOf c s t
 -- the ids of the boundaries are of the store, the generators have these dimensions, and they are a good signature
 pub record AreGeneratorsOf (c : Contents) (boundaries : List (Option (ℕ × ℕ))) (dims : List ℕ) : Type 0 where
   pub of_store : (i : ℕ) → i < length boundaries → IsBoundaryOf c (get_or boundaries i None)
-  pub dims : map generator_dim (generators_in c boundaries) ≡ dims
+  pub dimensions : map generator_dim (generators_in c boundaries) ≡ dims
   pub good : IsFullyGoodSignature (generators_in c boundaries)

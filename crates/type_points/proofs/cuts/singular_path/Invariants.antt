@@ -1,0 +1,4 @@
+use Rattle.std.proofs.Common.{◌≡◌}
+use Rattle.type_points.specs.Beginnings.{first_heights}
+use Rattle.type_points.proofs.cuts.singular_path.Given as goal
+
