@@ -4,5 +4,6 @@ pub mod GeneratorSteps
 pub mod IdentitySteps
 pub mod NormalTrees
 pub mod TypeForms
+pub mod PathSteps
 pub mod CutTrees
 pub mod ShortSteps

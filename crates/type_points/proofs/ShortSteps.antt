@@ -37,6 +37,7 @@ use Rattle.normalise.specs.FormTrees.{identity_test}
 use Rattle.type_points.specs.Answers.{Finds, IsValidAt}
 use Rattle.type_points.specs.Beginnings.{IsBeginning, first_heights, fault_further, first_further, fault_at_height, first_at_heights}
 use Rattle.type_points.specs.TypeTrees.{neighbourhood_tree, one_height_tree}
+use Rattle.type_points.proofs.PathSteps.{append_none, path_told, path_firsts}
 use Rattle.type_points.proofs.CutTrees.{valid_tree, one_height_at, neighbourhood_at, path_in}
 use Rattle.type_points.proofs.KeptGenerators.{valid_at-grows}
 
@@ -72,18 +73,6 @@ module _ (c : Contents) (n d s : ℕ) (h : IsValidAt c (suc n) d) (of_store : Is
   sing_at_dim i l e = record { of_store = of_store; shape = subst (IsDiagram n) (sym e) (h.valid.shape.sings_are i l) }
 
 -- ---- beginnings
-
-path_told : (t k : ℕ) (hs : List Height) → first_heights t ++ height_kind.S k ∷ hs ≡ singular_path t k ++ hs
-path_told zero k hs = refl
-path_told (suc t) k hs = ap (λ (gs : List Height). height_kind.S 0 ∷ gs) (path_told t k hs)
-
-path_firsts : (t k : ℕ) → map first_height (singular_path t k) ≡ first_heights (suc t)
-path_firsts zero k = refl
-path_firsts (suc t) k = ap (λ (gs : List Height). height_kind.S 0 ∷ gs) (path_firsts t k)
-
-append_none : (hs : List Height) → hs ++ [] ≡ hs
-append_none [] = refl
-append_none (h ∷ hs) = ap (λ (gs : List Height). h ∷ gs) (append_none hs)
 
 height_of_path : (n : ℕ) (C : Dia (suc n)) (t : ℕ) (hs : List Height) → 0 < t → IsPathOf (suc n) C (first_heights t ++ hs) → 0 < length C.sings
 height_of_path n C zero hs l p = absurd (let z : ⊥ = omega arith in z)

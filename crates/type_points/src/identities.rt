@@ -16,6 +16,8 @@ pub(crate) fn under_identities(
     requires { IsDiagramOf store.old d }
     ensures { MakesDiagram store.old store.new (under_identities_tree count (diagram_at store.old d)) result }
 {
+    // The call says of the store that its trees have their shapes.
+    let _ = store.length(d);
     let mut made = d;
     for _ in 0..count {
         made = identity_diagram(alloc, store, made)?;
