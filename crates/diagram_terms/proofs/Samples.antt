@@ -20,7 +20,6 @@ use Rattle.diagram_terms.specs.Dimension.{dimension_of}
 use Rattle.diagram_terms.specs.Loose.{first_loose_leg}
 use Rattle.diagram_terms.specs.Slices.{slice_at, slice_along}
 use Rattle.diagram_terms.specs.Points.{points}
-use Rattle.diagram_terms.specs.Typing.{Generator, first_fault}
 use Rattle.diagram_terms.specs.declared.place.Fault.TheVariants as fault
 
 abbrev cell : ℕ → ℕ → Label
@@ -155,21 +154,3 @@ no_loose_leg = unfold point zig ends zag regs sings fwds bwds heights label_at f
 
 two_points : points 1 (dia 1 (tree_at loop_nodes 3)) ≡ record { heights = height.R 0 ∷ []; label = x } ∷ record { heights = height.S 0 ∷ []; label = f } ∷ record { heights = height.R 1 ∷ []; label = x } ∷ []
 two_points = unfold point zig ends zag regs sings fwds bwds heights label_at from_at to_at no_dia no_arr in refl
-
--- x, and f from x to x
-abbrev two_generators : List Generator
-two_generators = None ∷ Some (point x, point x) ∷ []
-
-loop_is_typed : first_fault two_generators 1 (dia 1 (tree_at loop_nodes 3)) ≡ None
-loop_is_typed = unfold point zig ends zag regs sings fwds bwds heights label_at from_at to_at no_dia no_arr dimension_of in refl
-
--- f is no generator where x stands alone
-loop_without_f : first_fault (None ∷ []) 1 (dia 1 (tree_at loop_nodes 3)) ≡ Some (fault.LabelAt (height.S 0 ∷ []))
-loop_without_f = unfold point zig ends zag regs sings fwds bwds heights label_at from_at to_at no_dia no_arr dimension_of in refl
-
--- the dimension of f is above that of a point
-cell_as_point : first_fault two_generators 0 (dia 0 (tree_at loop_nodes 1)) ≡ Some (fault.TypeAt [])
-cell_as_point = unfold point zig ends zag regs sings fwds bwds heights label_at from_at to_at no_dia no_arr dimension_of in refl
-
-loose_is_first : first_fault two_generators 2 (dia 2 (tree_at loose_nodes 6)) ≡ Some (fault.LooseAt (step.F 0 ∷ []))
-loose_is_first = unfold point zig ends zag regs sings fwds bwds heights label_at from_at to_at no_dia no_arr dimension_of dual after comp in refl

@@ -3,7 +3,7 @@ use Rattle.std.specs.Prelude.{ℕ, Some, None}
 use Rattle.diagram_terms.specs.declared.label.Label.{Label}
 use Rattle.diagram_terms.specs.ConeTrees.{type_tree}
 use Rattle.diagram_terms.specs.Tree.{Tree, point}
-use Rattle.diagram_terms.specs.Typing.{Generator, generator_dim}
+use Rattle.diagram_terms.specs.Generators.{Generator, generator_dim}
 
 -- the label of the i-th generator: its place, and its dimension
 abbrev pub label_of : ℕ → Generator → Label

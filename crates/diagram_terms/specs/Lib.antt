@@ -1,3 +1,5 @@
+pub mod FirstOf
+pub mod Generators
 pub mod Labels
 pub mod Dual
 pub mod Family
@@ -43,7 +45,6 @@ pub mod Cuts
 pub mod CutsOfCuts
 pub mod Neighbourhoods
 pub mod PulledPoints
-pub mod FullTyping
 pub mod DecidingPoints
 pub mod TypeCheck
 pub mod CarriedRegions

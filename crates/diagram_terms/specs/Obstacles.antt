@@ -5,7 +5,9 @@ use Rattle.diagram_terms.specs.declared.place.Fault.{Fault}
 use Rattle.diagram_terms.specs.Dimension.{dimension_of}
 use Rattle.diagram_terms.specs.Slices.{have_one_boundary}
 use Rattle.diagram_terms.specs.Tree.{Tree}
-use Rattle.diagram_terms.specs.Typing.{Generator, first_fault_in, first_of}
+use Rattle.diagram_terms.specs.FirstOf.{first_of}
+use Rattle.diagram_terms.specs.Generators.{Generator}
+use Rattle.diagram_terms.specs.Typing.{first_fault_in}
 
 pub data Obstacle : Type 0 where
   -- the source and the target have different dimensions

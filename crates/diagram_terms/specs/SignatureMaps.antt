@@ -7,7 +7,7 @@ use Rattle.diagram_terms.specs.GeneratorTypes.{label_of}
 use Rattle.diagram_terms.specs.Relabelling.{relabelled}
 use Rattle.diagram_terms.specs.Suspension.{north, south, suspended}
 use Rattle.diagram_terms.specs.Tree.{Tree, point}
-use Rattle.diagram_terms.specs.Typing.{Generator}
+use Rattle.diagram_terms.specs.Generators.{Generator}
 
 -- a tree with each label replaced by its image, and a generator with its boundary so
 unfoldable pub relabelled_tree : (Label → Label) → Tree → Tree

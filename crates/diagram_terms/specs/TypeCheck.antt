@@ -6,11 +6,12 @@ use Rattle.diagram_terms.specs.declared.place.Height.{Height}
 use Rattle.diagram_terms.specs.declared.place.Height.TheVariants as height_kind
 use Rattle.diagram_terms.specs.Dual.{upto}
 use Rattle.diagram_terms.specs.Family.{Dia, reg, sing, fwd, bwd}
-use Rattle.diagram_terms.specs.FullTyping.{fault_at, verdict, fault_in}
+use Rattle.diagram_terms.specs.Typing.{fault_at, verdict, fault_in}
 use Rattle.diagram_terms.specs.Loose.{is_identity}
 use Rattle.diagram_terms.specs.Neighbourhoods.{neighbourhood, one_height}
 use Rattle.diagram_terms.specs.NormalForms.{normal_diagram}
-use Rattle.diagram_terms.specs.Typing.{Generator, first_of}
+use Rattle.diagram_terms.specs.FirstOf.{first_of}
+use Rattle.diagram_terms.specs.Generators.{Generator}
 
 -- a fault at a point of a slice, as one of the diagram
 abbrev pub fault_inside : Height → Fault → Fault

@@ -16,7 +16,7 @@ use Rattle.diagram_terms.specs.FaultsOnTrees.{diagram_fault}
 use Rattle.diagram_terms.specs.Nodes.{tree_at}
 use Rattle.diagram_terms.specs.Places.{first_bad_place}
 use Rattle.diagram_terms.specs.Slices.{slice_along}
-use Rattle.diagram_terms.specs.Typing.{first_of}
+use Rattle.diagram_terms.specs.FirstOf.{first_of}
 use Rattle.node_json.specs.declared.document.DiagramEntry.{DiagramEntry}
 use Rattle.node_json.specs.declared.document.Document.{Document}
 use Rattle.node_json.specs.declared.document.MapEntry.{MapEntry}

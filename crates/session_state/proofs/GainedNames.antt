@@ -7,7 +7,7 @@ use Rattle.std.proofs.lemmas.List.Sums.{sum_by-append}
 use Rattle.std.proofs.lemmas.Slice.Eq.{bytes_eq-Decides}
 use Rattle.diagram_terms.specs.GeneratorTypes.{type_of_generator}
 use Rattle.diagram_terms.specs.Tree.{Tree}
-use Rattle.diagram_terms.specs.Typing.{first_of}
+use Rattle.diagram_terms.specs.FirstOf.{first_of}
 use Rattle.workspace_json.specs.Maps.{NamedMap}
 use Rattle.workspace_json.specs.Workspaces.{NamedDiagram, NamedGenerator, Workspace, diagram_named, map_named, names_of, type_named}
 use Rattle.workspace_json.proofs.KeptRules.{count_all, count_of, diagram_names, generator_names, map_names}

@@ -3,7 +3,7 @@ use Rattle.std.proofs.Common.{◌≡◌, ℕ, List, [], ◌∷◌, cond, Bool, t
 use Rattle.std.specs.Prelude.{bytes_eq}
 use Rattle.std.proofs.lemmas.Slice.Eq.{bytes_eq-Decides}
 use Rattle.diagram_terms.specs.Tree.{Tree}
-use Rattle.diagram_terms.specs.Typing.{first_of}
+use Rattle.diagram_terms.specs.FirstOf.{first_of}
 use Rattle.hashcons.specs.Contents.{Contents, diagram_at}
 use Rattle.workspace_json.specs.Maps.{NamedMap as NamedTrees}
 use Rattle.workspace_json.specs.Workspaces.{IsWorkspace, Workspace, diagram_named, map_named, term, type_named}

@@ -5,7 +5,8 @@ use Rattle.std.proofs.lemmas.List.{length-map, map-append, take-map}
 use Rattle.std.proofs.lemmas.List.Elements.{All-head, All-nil, All-tail}
 use Rattle.diagram_terms.specs.declared.limits.TheConstants.{GREATEST_DIM}
 use Rattle.diagram_terms.specs.Dimension.{dimension_of}
-use Rattle.diagram_terms.specs.Typing.{Generator, generator_dim, IsGoodSignature, IsWellTyped}
+use Rattle.diagram_terms.specs.Generators.{Generator, generator_dim}
+use Rattle.diagram_terms.specs.Typing.{IsGoodSignature, IsWellTyped}
 use Rattle.hashcons.specs.Contents.{Contents, IsDiagramOf}
 use Rattle.typecheck.specs.Signatures.{AreGoodOver, Entry, IsEntryOver, SignatureState, entry_of, generator_in, generators_in, no_entry}
 use Rattle.node_json.specs.Names.{is_good_name}

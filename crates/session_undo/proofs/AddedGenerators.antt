@@ -6,7 +6,8 @@ use Rattle.diagram_terms.specs.declared.label.Label.{Label}
 use Rattle.diagram_terms.specs.declared.limits.TheConstants.{GREATEST_DIM, MAX_GENERATORS}
 use Rattle.diagram_terms.specs.GeneratorTypes.{label_of, type_of_generator}
 use Rattle.diagram_terms.specs.Obstacles.{Obstacle, dim_differs, not_parallel, dim_limit, count_limit, ill_typed, obstacle}
-use Rattle.diagram_terms.specs.Typing.{Generator, IsGoodSignature, generator_dim}
+use Rattle.diagram_terms.specs.Generators.{Generator, generator_dim}
+use Rattle.diagram_terms.specs.Typing.{IsGoodSignature}
 use Rattle.hashcons.specs.Contents.{Contents, Grows, IsDiagramOf, diagram_at}
 use Rattle.typecheck.specs.declared.refusal.AddRefusal.{AddRefusal}
 use Rattle.typecheck.specs.declared.refusal.AddRefusal.TheVariants as add

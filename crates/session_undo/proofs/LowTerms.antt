@@ -10,7 +10,9 @@ use Rattle.diagram_terms.specs.Dimension.{IsDiagramTree, dimension_of, dimension
 use Rattle.diagram_terms.specs.GeneratorTypes.{label_of, type_of_generator}
 use Rattle.diagram_terms.specs.Shape.{IsDiagram}
 use Rattle.diagram_terms.specs.Tree.{Tree, sings}
-use Rattle.diagram_terms.specs.Typing.{Generator, IsGoodGenerator, first_of, generator_dim}
+use Rattle.diagram_terms.specs.FirstOf.{first_of}
+use Rattle.diagram_terms.specs.Generators.{Generator, generator_dim}
+use Rattle.diagram_terms.specs.Typing.{IsGoodGenerator}
 use Rattle.diagram_terms.proofs.Dimensions.{diagram_dimension, diagram_parts_of}
 use Rattle.boundary_paths.proofs.ConesBySlices.{type_shape}
 use Rattle.workspace_json.specs.declared.refusal.Refusal.TheVariants as refusal

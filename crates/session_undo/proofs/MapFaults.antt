@@ -4,7 +4,7 @@ use Rattle.diagram_terms.specs.declared.place.Place.{Place}
 use Rattle.diagram_terms.specs.declared.place.Step.TheVariants as step
 use Rattle.diagram_terms.specs.FaultsOnTrees.{arrow_fault, diagram_fault}
 use Rattle.diagram_terms.specs.Places.{further_in}
-use Rattle.diagram_terms.specs.Typing.{first_of}
+use Rattle.diagram_terms.specs.FirstOf.{first_of}
 use Rattle.hashcons.specs.Contents.{Contents, Grows, arrow_at, diagram_at}
 use Rattle.workspace_json.specs.Maps.{map_place}
 use Rattle.workspace_lists.specs.Held.{IsMapOf, map_called}

@@ -8,7 +8,8 @@ use Rattle.diagram_terms.specs.Decoded.{dia}
 use Rattle.diagram_terms.specs.Dimension.{dimension_of}
 use Rattle.diagram_terms.specs.Points.{Point, points}
 use Rattle.diagram_terms.specs.Tree.{Tree}
-use Rattle.diagram_terms.specs.Typing.{Generator, IsGoodSignature, IsWellTyped, generator_dim, has_dim, is_generator}
+use Rattle.diagram_terms.specs.Generators.{Generator, generator_dim, has_dim, is_generator}
+use Rattle.diagram_terms.specs.Typing.{IsGoodSignature, IsWellTyped}
 use Rattle.node_json.specs.Names.{is_good_name}
 use Rattle.workspace_json.specs.Workspaces.{IsWorkspace, NamedDiagram, NamedGenerator, Workspace, generators_of, names_of, with_diagram, with_generator}
 use Rattle.workspace_json.proofs.KeptRules.{IsNew, all_good, count_of, diagram_names, first_more, generator_names, good_diagrams, good_generators, good_maps, map_names, once_more, second_more}

@@ -9,7 +9,7 @@ use Rattle.diagram_terms.specs.Dimension.{dimension_of}
 use Rattle.diagram_terms.specs.Family.{Dia}
 use Rattle.diagram_terms.specs.GeneratorTypes.{label_of}
 use Rattle.diagram_terms.specs.Tree.{Tree, label_at-point}
-use Rattle.diagram_terms.specs.Typing.{Generator, generator_dim, has_dim, is_generator}
+use Rattle.diagram_terms.specs.Generators.{Generator, generator_dim, has_dim, is_generator}
 use Rattle.diagram_terms.specs.Valid.{Valid}
 use Rattle.diagram_terms.proofs.Glue.{dia-dia_tree}
 use Rattle.plain_laws.proofs.Cones.{types_are_good}
@@ -22,7 +22,7 @@ use Rattle.normal_form_laws.proofs.NormalDiagrams.{no_legs}
 use Rattle.normal_form_laws.proofs.Relabelling.{relabelling_carries_over}
 use Rattle.diagram_terms.specs.Neighbourhoods.{neighbourhood}
 use Rattle.diagram_terms.specs.Paths.{point_label}
-use Rattle.diagram_terms.specs.FullTyping.{under_identities, normal_type, is_type, IsTypedAt, FullyTyped, IsFullyGoodBoundary, IsFullyGoodGenerator, IsFullyGoodSignature}
+use Rattle.diagram_terms.specs.Typing.{under_identities, normal_type, is_type, IsTypedAt, WellTyped, IsGoodBoundary, IsGoodGenerator, IsGoodSignature}
 use Rattle.typing_laws.proofs.DecidingPoints.{at_point}
 use Rattle.typing_laws.proofs.GoodGenerators.{good_ends, IsGeneratorAt, generator_of, generator_is_good}
 use Rattle.typing_laws.proofs.Turns.{neighbourhood_valid}
@@ -62,21 +62,21 @@ module _ (image : Label → Label) (dims : (x : Label) → (image x).dim ≡ x.d
   tree_is d t e = ap (λ (n : ℕ). dia_tree n (relabelled image n (dia n t))) e
 
   -- the generator's dimension stays
-  dim_is : (gs : List Generator) (g : Generator) → IsFullyGoodGenerator gs g → generator_dim (relabelled_generator image g) ≡ generator_dim g
+  dim_is : (gs : List Generator) (g : Generator) → IsGoodGenerator gs g → generator_dim (relabelled_generator image g) ≡ generator_dim g
   dim_is gs None b = refl
   dim_is gs (Some (s, t)) b =
       let d : ℕ = dimension_of s in
       ap suc (ap dimension_of (tree_is d s refl) ∙ valid_dimension d (relabelled image d (dia d s)) ((keeps d).diagrams (dia d s) b.source.typed.valid))
 
   -- the relabelled normal form of a type is that of the relabelled type
-  type_is : (gs : List Generator) (g : Generator) (x : Label) → IsFullyGoodGenerator gs g → x.dim ≡ generator_dim g
+  type_is : (gs : List Generator) (g : Generator) (x : Label) → IsGoodGenerator gs g → x.dim ≡ generator_dim g
       → relabelled image (generator_dim g) (dia (generator_dim g) (normal_type x (Some g)))
       ≡ dia (generator_dim g) (normal_type (image x) (Some (relabelled_generator image g)))
   unfolding normal_type relabelled
   type_is gs None x b e = ap image (label_at-point x) ∙ sym (label_at-point (image x))
   type_is gs (Some (s, t)) x b e = boundary_type gs s t x b e
     where
-      boundary_type : (gs : List Generator) (s t : Tree) (x : Label) → IsFullyGoodBoundary gs s t → x.dim ≡ suc (dimension_of s)
+      boundary_type : (gs : List Generator) (s t : Tree) (x : Label) → IsGoodBoundary gs s t → x.dim ≡ suc (dimension_of s)
           → let d : ℕ = dimension_of s in relabelled image (suc d) (dia (suc d) (normal_type x (Some (Some (s, t)))))
           ≡ dia (suc d) (normal_type (image x) (Some (Some (relabelled_tree image s, relabelled_tree image t))))
       boundary_type gs s t x b e =
@@ -104,7 +104,7 @@ module _ (image : Label → Label) (dims : (x : Label) → (image x).dim ≡ x.d
 
 -- ---- at a point
 
-module _ (generators others : List Generator) (image : Label → Label) (good : IsFullyGoodSignature generators) (m : IsLabelMap generators others image) where
+module _ (generators others : List Generator) (image : Label → Label) (good : IsGoodSignature generators) (m : IsLabelMap generators others image) where
   image_found : (x : Label) (g : Generator) → IsGeneratorAt generators x g → slice_get others (image x).number ≡ Some (relabelled_generator image g)
   image_found x g a =
       let same : label_of x.number g ≡ x = λ i. record { number = x.number; dim = a.dim i } in
@@ -134,7 +134,7 @@ module _ (generators others : List Generator) (image : Label → Label) (good : 
             ∙ ap₂ (λ (j : ℕ) (o : Option Generator). under_identities n j (normal_type (image x) o)) (sym same_dim) (sym (image_found x g a));
       })
 
-  relabelled_typed : (d : ℕ) (X : Dia d) → FullyTyped generators d X → FullyTyped others d (relabelled image d X)
+  relabelled_typed : (d : ℕ) (X : Dia d) → WellTyped generators d X → WellTyped others d (relabelled image d X)
   relabelled_typed d X w =
       let Y : Dia d = relabelled image d X in
       let k = keeps image m.dims d in

@@ -19,7 +19,7 @@ use Rattle.diagram_terms.specs.Relabelling.{relabelled, relabelled_arrow}
 use Rattle.diagram_terms.specs.SignatureMaps.{suspended_tree, suspended_signature}
 use Rattle.diagram_terms.specs.Suspension.{north, south, raised, suspended, suspended_arrow}
 use Rattle.diagram_terms.specs.Tree.{point, label_at}
-use Rattle.diagram_terms.specs.Typing.{Generator}
+use Rattle.diagram_terms.specs.Generators.{Generator}
 
 abbrev x : Label
 x = record { number = 0; dim = 0 }

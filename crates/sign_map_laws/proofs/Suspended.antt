@@ -12,7 +12,7 @@ use Rattle.diagram_terms.specs.Dimension.{dimension_of, dimension_of-point}
 use Rattle.diagram_terms.specs.Family.{Dia}
 use Rattle.diagram_terms.specs.Least.{Leg}
 use Rattle.diagram_terms.specs.Tree.{Tree, point, label_at-point}
-use Rattle.diagram_terms.specs.Typing.{Generator, generator_dim, has_dim, is_generator}
+use Rattle.diagram_terms.specs.Generators.{Generator, generator_dim, has_dim, is_generator}
 use Rattle.diagram_terms.specs.Valid.{Valid}
 use Rattle.diagram_terms.proofs.Glue.{dia-dia_tree}
 use Rattle.plain_laws.proofs.Cones.{types_are_good}
@@ -24,7 +24,7 @@ use Rattle.normal_form_laws.proofs.NormalDiagrams.{no_legs}
 use Rattle.normal_form_laws.proofs.Suspension.{suspension_carries_over}
 use Rattle.diagram_terms.specs.Neighbourhoods.{neighbourhood}
 use Rattle.diagram_terms.specs.Paths.{IsPointOf, point_label}
-use Rattle.diagram_terms.specs.FullTyping.{under_identities, normal_type, is_type, IsTypedAt, FullyTyped, IsFullyGoodBoundary, IsFullyGoodGenerator, IsFullyGoodSignature}
+use Rattle.diagram_terms.specs.Typing.{under_identities, normal_type, is_type, IsTypedAt, WellTyped, IsGoodBoundary, IsGoodGenerator, IsGoodSignature}
 use Rattle.typing_laws.proofs.DecidingPoints.{at_point}
 use Rattle.typing_laws.proofs.GoodGenerators.{good_ends, IsGeneratorAt, generator_of, generator_is_good}
 use Rattle.typing_laws.proofs.Roots.{points_have_roots}
@@ -64,7 +64,7 @@ pub tree_dim : (d : ℕ) (t : Tree) → dimension_of t ≡ d → Valid d (dia d 
 tree_dim d t e v = ap dimension_of (tree_is d t e) ∙ valid_dimension (suc d) (suspended d (dia d t)) ((keeps d).diagrams (dia d t) v)
 
 -- a generator becomes one of the next dimension
-pub dim_is : (gs : List Generator) (g : Generator) → IsFullyGoodGenerator gs g → generator_dim (suspended_generator g) ≡ suc (generator_dim g)
+pub dim_is : (gs : List Generator) (g : Generator) → IsGoodGenerator gs g → generator_dim (suspended_generator g) ≡ suc (generator_dim g)
 dim_is gs None b = ap suc (dimension_of-point north)
 dim_is gs (Some (s, t)) b = ap suc (tree_dim (dimension_of s) s refl b.source.typed.valid)
 
@@ -85,7 +85,7 @@ point_type x =
     ∙ sym (dia-dia_tree 1 (normal_diagram 1 C))
     ∙ ap (dia 1) (sym (normal_type_at zero (point north) (point south) (raised x) (dimension_of-point north)))
 
-boundary_type : (gs : List Generator) (s t : Tree) (x : Label) → IsFullyGoodBoundary gs s t → x.dim ≡ suc (dimension_of s)
+boundary_type : (gs : List Generator) (s t : Tree) (x : Label) → IsGoodBoundary gs s t → x.dim ≡ suc (dimension_of s)
     → let d : ℕ = dimension_of s in suspended (suc d) (dia (suc d) (normal_type x (Some (Some (s, t)))))
     ≡ dia (suc (suc d)) (normal_type (raised x) (Some (Some (suspended_tree s, suspended_tree t))))
 boundary_type gs s t x b e =
@@ -110,7 +110,7 @@ boundary_type gs s t x b e =
     ∙ ap (dia (suc (suc d))) (sym (normal_type_at (suc d) (suspended_tree s) (suspended_tree t) (raised x) (tree_dim d s refl vS)))
 
 -- the suspended normal form of a type is that of the suspended type
-type_is : (gs : List Generator) (g : Generator) (x : Label) → IsFullyGoodGenerator gs g → x.dim ≡ generator_dim g
+type_is : (gs : List Generator) (g : Generator) (x : Label) → IsGoodGenerator gs g → x.dim ≡ generator_dim g
     → suspended (generator_dim g) (dia (generator_dim g) (normal_type x (Some g)))
     ≡ dia (suc (generator_dim g)) (normal_type (raised x) (Some (suspended_generator g)))
 type_is gs None x b e = point_type x
@@ -118,7 +118,7 @@ type_is gs (Some (s, t)) x b e = boundary_type gs s t x b e
 
 -- ---- at a point
 
-module _ (generators : List Generator) (good : IsFullyGoodSignature generators) where
+module _ (generators : List Generator) (good : IsGoodSignature generators) where
   abbrev others : List Generator
   others = suspended_signature generators
 
@@ -160,7 +160,7 @@ module _ (generators : List Generator) (good : IsFullyGoodSignature generators) 
         same = ap₂ (λ (m : ℕ) (o : Option Generator). under_identities n m (normal_type z o)) (sym all) (sym found);
       })
 
-  module _ (d : ℕ) (X : Dia d) (w : FullyTyped generators d X) where
+  module _ (d : ℕ) (X : Dia d) (w : WellTyped generators d X) where
     abbrev Y : Dia (suc d)
     Y = suspended d X
 
@@ -199,7 +199,7 @@ module _ (generators : List Generator) (good : IsFullyGoodSignature generators) 
       | inr e ↦ end_has_type hs 1 refl e
     ]
 
-    pub suspended_typed : FullyTyped others (suc d) Y
+    pub suspended_typed : WellTyped others (suc d) Y
     suspended_typed =
         let valid = (keeps d).diagrams X w.valid in
         let plain = (keeps d).plain_diagrams X w.plain in

@@ -18,7 +18,7 @@ use Rattle.diagram_terms.specs.Paths.{IsPointOf, point_label}
 use Rattle.diagram_terms.specs.Cuts.{cut_diagram}
 use Rattle.diagram_terms.specs.Neighbourhoods.{neighbourhood}
 use Rattle.region_laws.proofs.Neighbourhoods.{regular_neighbourhoods}
-use Rattle.diagram_terms.specs.FullTyping.{under_identities}
+use Rattle.diagram_terms.specs.Typing.{under_identities}
 use Rattle.diagram_terms.specs.DecidingPoints.{all_singular, is_deciding}
 
 -- all heights are regular

@@ -8,14 +8,14 @@ use Rattle.diagram_terms.specs.Dimension.{dimension_of}
 use Rattle.diagram_terms.specs.Family.{Dia}
 use Rattle.diagram_terms.specs.Shape.{IsDiagram}
 use Rattle.diagram_terms.specs.Tree.{Tree}
-use Rattle.diagram_terms.specs.Typing.{Generator}
+use Rattle.diagram_terms.specs.Generators.{Generator}
 use Rattle.diagram_terms.specs.Valid.{Valid}
 use Rattle.diagram_terms.proofs.Dimensions.{diagram_dimension}
 use Rattle.diagram_terms.proofs.FamilyShapes.{diagram_shape, valid_fits}
 use Rattle.diagram_terms.specs.NormalForms.{normal_diagram}
 use Rattle.diagram_terms.specs.SameDiagrams.{same_diagram}
 use Rattle.normal_form_laws.proofs.SameDiagrams.{same_diagrams_are_decided}
-use Rattle.diagram_terms.specs.FullTyping.{under_identities, normal_type, is_type}
+use Rattle.diagram_terms.specs.Typing.{under_identities, normal_type, is_type}
 use Rattle.typing_laws.proofs.GoodGenerators.{and_left, and_right}
 
 -- the tree of a valid diagram has its shape and its dimension

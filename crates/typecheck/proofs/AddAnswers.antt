@@ -12,7 +12,9 @@ use Rattle.diagram_terms.specs.Dimension.{dimension_of, IsDiagramTree}
 use Rattle.diagram_terms.specs.Obstacles.{Obstacle, dim_differs, not_parallel, dim_limit, count_limit, ill_typed, boundary_obstacle, count_obstacle, end_obstacle, typing_obstacle, obstacle, unless}
 use Rattle.diagram_terms.specs.Slices.{AreParallel, source_tree, target_tree}
 use Rattle.diagram_terms.specs.Tree.{Tree}
-use Rattle.diagram_terms.specs.Typing.{Generator, generator_dim, first_fault_in, first_of, IsGoodGenerator, IsWellTyped}
+use Rattle.diagram_terms.specs.FirstOf.{first_of}
+use Rattle.diagram_terms.specs.Generators.{Generator, generator_dim}
+use Rattle.diagram_terms.specs.Typing.{first_fault_in, IsGoodGenerator, IsWellTyped}
 use Rattle.diagram_terms.proofs.Completions.{same_tree_decides}
 use Rattle.hashcons.specs.Contents.{Contents, Grows, IsStore, IsDiagramOf, diagram_at}
 use Rattle.typecheck.specs.declared.refusal.AddRefusal.{AddRefusal}

@@ -15,7 +15,8 @@ use Rattle.diagram_terms.specs.OnTrees.{on_diagram}
 use Rattle.diagram_terms.specs.Points.{Point, point_inside, inside, points}
 use Rattle.diagram_terms.specs.Slices.{AreParallel}
 use Rattle.diagram_terms.specs.Tree.{Tree, point}
-use Rattle.diagram_terms.specs.Typing.{Generator, generator_dim, IsWellTyped, IsGoodBoundary}
+use Rattle.diagram_terms.specs.Generators.{Generator, generator_dim}
+use Rattle.diagram_terms.specs.Typing.{IsWellTyped, IsGoodBoundary}
 use Rattle.diagram_terms.proofs.Duals.{length-upto, get-upto}
 use Rattle.hashcons.specs.Contents.{Contents, IsDiagramOf, diagram_at}
 use Rattle.zigzag_maps.specs.Found.{IsValidDiagram}

@@ -8,7 +8,8 @@ use Rattle.diagram_terms.specs.FaultsOnTrees.{diagram_fault}
 use Rattle.diagram_terms.specs.OnTrees.{on_diagram}
 use Rattle.diagram_terms.specs.Points.{points}
 use Rattle.diagram_terms.specs.Tree.{Tree}
-use Rattle.diagram_terms.specs.Typing.{Generator, first_of}
+use Rattle.diagram_terms.specs.FirstOf.{first_of}
+use Rattle.diagram_terms.specs.Generators.{Generator}
 use Rattle.plain_maps.specs.Plainness.{loose_leg}
 use Rattle.diagram_terms.specs.Typing.{first_point_fault_in, first_fault_in}
 use Rattle.typecheck.specs.Walk.{first_failing, failing_in, fault_over}

@@ -2,7 +2,8 @@
 use Rattle.std.proofs.Common.{◌≡◌, ℕ, zero, suc, ◌<◌, ◌≤◌, ◌+◌, ◌⊎◌, inl, inr, List, [], ◌∷◌, ◌++◌, length, get_or, map, take, Option, None, Some, refl, sym, ap, subst, ◌∙◌, arith, length-append}
 use Rattle.std.proofs.lemmas.List.{get_or-take, length-take, take-append-le, take_at, take-map, get_or-map, get_or_append_left, get_or_push, length-map, map-append}
 use Rattle.diagram_terms.specs.declared.limits.TheConstants.{MAX_GENERATORS}
-use Rattle.diagram_terms.specs.Typing.{Generator, generator_dim, IsGoodGenerator, IsGoodSignature, IsGoodBoundary}
+use Rattle.diagram_terms.specs.Generators.{Generator, generator_dim}
+use Rattle.diagram_terms.specs.Typing.{IsGoodGenerator, IsGoodSignature, IsGoodBoundary}
 use Rattle.hashcons.specs.Contents.{Contents, Grows, diagram_at}
 use Rattle.typecheck.specs.Points.{HaveDims}
 use Rattle.typecheck.specs.Signatures.{Entry, no_entry, generator_in, generators_in, IsBoundaryOf, IsEntryOver, AreGoodOver}

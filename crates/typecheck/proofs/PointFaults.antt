@@ -8,7 +8,9 @@ use Rattle.diagram_terms.specs.declared.label.Label.{Label}
 use Rattle.diagram_terms.specs.declared.place.Fault.{Fault}
 use Rattle.diagram_terms.specs.declared.place.Fault.TheVariants as fault
 use Rattle.diagram_terms.specs.Points.{Point}
-use Rattle.diagram_terms.specs.Typing.{Generator, generator_dim, has_dim, is_generator, has_type, point_fault, first_of, first_point_fault}
+use Rattle.diagram_terms.specs.FirstOf.{first_of}
+use Rattle.diagram_terms.specs.Generators.{Generator, generator_dim, has_dim, is_generator}
+use Rattle.diagram_terms.specs.Typing.{has_type, point_fault, first_point_fault}
 use Rattle.typecheck.specs.Points.{HaveDims}
 use Rattle.typecheck.specs.Walk.{first_failing, fault_over}
 

@@ -12,7 +12,7 @@ use Rattle.diagram_terms.specs.Family.{Dia, reg, sing}
 use Rattle.diagram_terms.specs.Points.{Point, point_inside, inside, points}
 use Rattle.diagram_terms.specs.Shape.{IsDiagram, reg_at, sing_at}
 use Rattle.diagram_terms.specs.Tree.{Tree, sings, point, label_at, label_at-point}
-use Rattle.diagram_terms.specs.Typing.{Generator}
+use Rattle.diagram_terms.specs.Generators.{Generator}
 use Rattle.diagram_terms.proofs.Dimensions.{diagram_dimension}
 use Rattle.diagram_terms.proofs.Glue.{dia-sings_len, dia-reg, dia-sing}
 use Rattle.typecheck.specs.Walk.{may_stand, first_failing, failing_in, failing_at_reg, failing_at_sing}

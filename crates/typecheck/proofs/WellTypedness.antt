@@ -11,7 +11,9 @@ use Rattle.diagram_terms.specs.Places.{first_bad_place}
 use Rattle.diagram_terms.specs.Points.{points}
 use Rattle.diagram_terms.specs.Shape.{IsDiagram}
 use Rattle.diagram_terms.specs.Tree.{Tree}
-use Rattle.diagram_terms.specs.Typing.{Generator, WellTyped, IsWellTyped, first_of, first_point_fault, first_fault}
+use Rattle.diagram_terms.specs.FirstOf.{first_of}
+use Rattle.diagram_terms.specs.Generators.{Generator}
+use Rattle.diagram_terms.specs.Typing.{WellTyped, IsWellTyped, first_point_fault, first_fault}
 use Rattle.diagram_terms.proofs.FirstFaults.{no_bad_place}
 use Rattle.diagram_terms.proofs.LooseTests.{diagram_lengths, no_first_loose_leg}
 use Rattle.typecheck.proofs.PointFaults.{no_point_fails}

@@ -3,7 +3,7 @@ use Rattle.std.specs.Prelude.{◌≡◌, ◌⊎◌, List, length, Option, Some, 
 use Rattle.diagram_terms.specs.declared.label.Label.{Label}
 use Rattle.diagram_terms.specs.GeneratorTypes.{label_of}
 use Rattle.diagram_terms.specs.Obstacles.{Obstacle, dim_differs, not_parallel, dim_limit, count_limit, ill_typed, obstacle}
-use Rattle.diagram_terms.specs.Typing.{Generator}
+use Rattle.diagram_terms.specs.Generators.{Generator}
 use Rattle.typecheck.specs.declared.refusal.AddRefusal.{AddRefusal}
 use Rattle.typecheck.specs.declared.refusal.AddRefusal.TheVariants as refusal
 

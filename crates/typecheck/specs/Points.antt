@@ -1,7 +1,7 @@
 -- What is found at the points of a diagram's tree, where of the generators only the dimensions are looked at.
 use Rattle.std.specs.Prelude.{◌≡◌, ℕ, List, map, Option, None, option_map}
 use Rattle.diagram_terms.specs.Points.{Point}
-use Rattle.diagram_terms.specs.Typing.{Generator, generator_dim}
+use Rattle.diagram_terms.specs.Generators.{Generator, generator_dim}
 use Rattle.found_ids.specs.declared.FoundIds.{FoundIds}
 use Rattle.hashcons.specs.Contents.{Contents}
 use Rattle.found_ids.specs.FoundIds.{HaveFound}

@@ -1,7 +1,8 @@
 -- What callers see of a signature, and which signatures are good over a store.
 use Rattle.std.specs.Prelude.{◌≡◌, ℕ, ◌<◌, ◌≤◌, ◌-◌, min, List, [], ◌∷◌, length, map, get_or, Option, Some, None}
 use Rattle.diagram_terms.specs.declared.limits.TheConstants.{GREATEST_DIM, MAX_GENERATORS}
-use Rattle.diagram_terms.specs.Typing.{Generator, generator_dim, IsGoodSignature}
+use Rattle.diagram_terms.specs.Generators.{Generator, generator_dim}
+use Rattle.diagram_terms.specs.Typing.{IsGoodSignature}
 use Rattle.hashcons.specs.Contents.{Contents, IsDiagramOf, diagram_at}
 
 -- what is kept of a generator: the ids of its source and its target, if it has a boundary, and its dimension

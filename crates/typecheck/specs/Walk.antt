@@ -9,7 +9,7 @@ use Rattle.diagram_terms.specs.Dimension.{dimension_of}
 use Rattle.diagram_terms.specs.Points.{Point, point_inside, points}
 use Rattle.diagram_terms.specs.Shape.{reg_at, sing_at}
 use Rattle.diagram_terms.specs.Tree.{Tree}
-use Rattle.diagram_terms.specs.Typing.{Generator, is_generator}
+use Rattle.diagram_terms.specs.Generators.{Generator, is_generator}
 use Rattle.typecheck.specs.declared.points.FailingPoint.{FailingPoint}
 
 -- the label may stand in an n-diagram: it is a generator's, of dimension at most n

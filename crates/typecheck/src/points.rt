@@ -1,7 +1,8 @@
 ghost use Rattle.std.specs.Prelude.{◌≡◌, ◌-◌, ◌<◌, ◌≤◌, IfOk, length, option_map};
 ghost use Rattle.diagram_terms.specs.Points.{point_inside};
 ghost use Rattle.diagram_terms.specs.Tree.{sings};
-ghost use Rattle.diagram_terms.specs.Typing.{first_point_fault_in, is_generator};
+ghost use Rattle.diagram_terms.specs.Generators.{is_generator};
+ghost use Rattle.diagram_terms.specs.Typing.{first_point_fault_in};
 ghost use Rattle.hashcons.specs.Contents.{IsDiagramOf, IsStore, diagram_at};
 ghost use Rattle.zigzag_maps.specs.DiagramTests.{IsDiagramAt};
 ghost use Rattle.typecheck.specs.Points.{Finds, HavePassed, OfAll};

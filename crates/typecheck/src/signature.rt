@@ -1,7 +1,7 @@
 ghost use Rattle.std.specs.Prelude.{◌≡◌, ◌≤◌, IfOk, IfErr, OnOk, option_map};
 ghost use Rattle.diagram_terms.specs.declared.limits.TheConstants.{GREATEST_DIM};
 ghost use Rattle.diagram_terms.specs.Obstacles.{boundary_obstacle};
-ghost use Rattle.diagram_terms.specs.Typing.{generator_dim};
+ghost use Rattle.diagram_terms.specs.Generators.{generator_dim};
 ghost use Rattle.typecheck.specs.Outcomes.{refusal_by};
 ghost use Rattle.typecheck.specs.Signatures.{IsBoundaryOf, generator_in};
 

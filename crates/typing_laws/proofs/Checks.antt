@@ -10,9 +10,10 @@ use Rattle.diagram_terms.specs.Dual.{upto}
 use Rattle.diagram_terms.specs.Family.{Dia, reg, sing}
 use Rattle.diagram_terms.specs.Plain.{Plain}
 use Rattle.diagram_terms.specs.Points.{Point, inside, points}
-use Rattle.diagram_terms.specs.Typing.{Generator, first_of}
+use Rattle.diagram_terms.specs.FirstOf.{first_of}
+use Rattle.diagram_terms.specs.Generators.{Generator}
 use Rattle.diagram_terms.specs.Valid.{Valid}
-use Rattle.diagram_terms.specs.FullTyping.{Failing, verdict, fault_by, fault_in, first_fault_among, first_full_point_fault, IsFullyGoodSignature}
+use Rattle.diagram_terms.specs.Typing.{Failing, verdict, fault_by, fault_in, first_fault_among, first_point_fault, IsGoodSignature}
 use Rattle.diagram_terms.specs.DecidingPoints.{all_singular, singular_points}
 use Rattle.diagram_terms.specs.TypeCheck.{fault_inside, first_over}
 use Rattle.typing_laws.specs.Deciding.{fault_over, first_deciding}
@@ -60,12 +61,12 @@ singular_points_are (suc d) X = singular_step d (singular_points_are d) X
 
 -- ---- the check
 
-module _ (d : ℕ) (generators : List Generator) (X : Dia (suc d)) (s : IsFullyGoodSignature generators) where
+module _ (d : ℕ) (generators : List Generator) (X : Dia (suc d)) (s : IsGoodSignature generators) where
   abbrev f : Point → Option Fault
   f = fault_in generators (suc d) X
 
   -- the points over a regular height are checked as those of the slice
-  pub check_reg : (j : ℕ) → option_map (fault_inside (height_kind.R j)) (first_full_point_fault generators d (reg d X j))
+  pub check_reg : (j : ℕ) → option_map (fault_inside (height_kind.R j)) (first_point_fault generators d (reg d X j))
       ≡ first_fault_among f (inside (height_kind.R j) (points d (reg d X j)))
   check_reg j =
       ap (λ (V : Label → Dia d → Option Failing). option_map (fault_inside (height_kind.R j))
@@ -89,14 +90,14 @@ module _ (d : ℕ) (generators : List Generator) (X : Dia (suc d)) (s : IsFullyG
       ∙ sym (first-append f rs ss)
 
 -- a check whose answers over the regular slices are right and which goes on with S over the singular heights
-pub check_by : (d : ℕ) (generators : List Generator) (X : Dia (suc d)) → IsFullyGoodSignature generators
-    → (R S : ℕ → Option Fault) → ((j : ℕ) → j ≤ length X.sings → R j ≡ first_full_point_fault generators d (reg d X j))
+pub check_by : (d : ℕ) (generators : List Generator) (X : Dia (suc d)) → IsGoodSignature generators
+    → (R S : ℕ → Option Fault) → ((j : ℕ) → j ≤ length X.sings → R j ≡ first_point_fault generators d (reg d X j))
     → ((k : ℕ) → k < length X.sings
     → first_of (first_fault_among (fault_in generators (suc d) X) (inside (height_kind.R k) (points d (reg d X k)))) (S k)
     ≡ first_fault_among (fault_in generators (suc d) X) (pair_at d X k))
     → first_of (first_over (λ k. first_of (option_map (fault_inside (height_kind.R k)) (R k)) (S k)) (upto (length X.sings)))
     (option_map (fault_inside (height_kind.R (length X.sings))) (R (length X.sings)))
-    ≡ first_full_point_fault generators (suc d) X
+    ≡ first_point_fault generators (suc d) X
 check_by d generators X s R S regular singular =
     let n : ℕ = length X.sings in
     let f : Point → Option Fault = fault_in generators (suc d) X in

@@ -14,7 +14,7 @@ use Rattle.diagram_terms.specs.Dual.{upto}
 use Rattle.diagram_terms.specs.Family.{Dia, no_label, reg, sing}
 use Rattle.diagram_terms.specs.Plain.{Plain}
 use Rattle.diagram_terms.specs.Points.{Point, point_inside, inside, points}
-use Rattle.diagram_terms.specs.Typing.{first_of}
+use Rattle.diagram_terms.specs.FirstOf.{first_of}
 use Rattle.diagram_terms.specs.Valid.{Valid}
 use Rattle.diagram_terms.specs.NormalForms.{normal_diagram}
 use Rattle.normal_form_laws.proofs.NormalDiagrams.{identity_diagrams_keep_normal_forms}
@@ -24,7 +24,7 @@ use Rattle.diagram_terms.specs.Neighbourhoods.{neighbourhood}
 use Rattle.region_laws.proofs.ListedPoints.{points_are_listed}
 use Rattle.region_laws.proofs.Neighbourhoods.{regular_neighbourhoods}
 use Rattle.typing_laws.specs.Alike.{IsTwin}
-use Rattle.diagram_terms.specs.FullTyping.{Failing, fault_at, verdict, fault_by, first_fault_among, no_generator, other_type}
+use Rattle.diagram_terms.specs.Typing.{Failing, fault_at, verdict, fault_by, first_fault_among, no_generator, other_type}
 use Rattle.diagram_terms.specs.DecidingPoints.{all_singular, is_deciding, deciding_points}
 use Rattle.diagram_terms.specs.TypeCheck.{fault_inside, first_over}
 use Rattle.typing_laws.specs.Laws.{DecidingPointsDecide, DecidingPointsDecideTypes, FirstFailingPointsDecide}

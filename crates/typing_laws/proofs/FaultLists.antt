@@ -7,8 +7,8 @@ use Rattle.std.proofs.lemmas.Option.{none-some}
 use Rattle.diagram_terms.specs.declared.place.Fault.{Fault}
 use Rattle.diagram_terms.specs.declared.place.Height.{Height}
 use Rattle.diagram_terms.specs.Points.{Point, point_inside, inside}
-use Rattle.diagram_terms.specs.Typing.{first_of}
-use Rattle.diagram_terms.specs.FullTyping.{Failing, no_generator, other_type, fault_at, first_fault_among}
+use Rattle.diagram_terms.specs.FirstOf.{first_of}
+use Rattle.diagram_terms.specs.Typing.{Failing, no_generator, other_type, fault_at, first_fault_among}
 use Rattle.diagram_terms.specs.TypeCheck.{fault_inside, first_over}
 
 -- ---- the first of two

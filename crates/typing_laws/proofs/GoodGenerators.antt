@@ -13,11 +13,11 @@ use Rattle.diagram_terms.specs.Family.{Dia, reg, sing}
 use Rattle.diagram_terms.specs.Shape.{IsDiagram}
 use Rattle.diagram_terms.specs.Slices.{AreParallel}
 use Rattle.diagram_terms.specs.Tree.{Tree, sings}
-use Rattle.diagram_terms.specs.Typing.{Generator, generator_dim, has_dim, is_generator}
+use Rattle.diagram_terms.specs.Generators.{Generator, generator_dim, has_dim, is_generator}
 use Rattle.diagram_terms.proofs.Dimensions.{diagram_dimension}
 use Rattle.diagram_terms.proofs.Glue.{dia-reg, dia-sings_len}
 use Rattle.diagram_terms.specs.Paths.{IsPointOf, point_label}
-use Rattle.diagram_terms.specs.FullTyping.{IsTypedAt, FullyTyped, IsFullyGoodBoundary, IsFullyGoodGenerator, IsFullyGoodSignature}
+use Rattle.diagram_terms.specs.Typing.{IsTypedAt, WellTyped, IsGoodBoundary, IsGoodGenerator, IsGoodSignature}
 use Rattle.typing_laws.proofs.DecidingPoints.{at_point}
 
 pub and_left : (a b : Bool) → (a && b) ≡ true → a ≡ true
@@ -38,7 +38,7 @@ labels_below n (suc d) X h = record {
 }
 
 -- a well typed n-diagram has labels of dimensions up to n
-pub typed_labels : (generators : List Generator) (n : ℕ) (X : Dia n) → FullyTyped generators n X → HasLabelsBelow (suc n) n X
+pub typed_labels : (generators : List Generator) (n : ℕ) (X : Dia n) → WellTyped generators n X → HasLabelsBelow (suc n) n X
 typed_labels generators n X w = labels_below (suc n) n X (λ hs q.
     let t = at_point n X (IsTypedAt generators n X) w.typed hs q in
     let l = leb-true (point_label n X hs).dim n (and_left _ _ t.type) in omega arith)
@@ -61,19 +61,19 @@ parallel_at (suc d) s t h k p =
 -- S and T of dimension d can be the boundary of a generator with the label x, and are well typed over the generators
 pub record AreGoodEnds (generators : List Generator) (x : Label) (d : ℕ) (S T : Dia d) : Type 0 where
   pub dims : x.dim ≡ suc d
-  pub source : FullyTyped generators d S
-  pub target : FullyTyped generators d T
+  pub source : WellTyped generators d S
+  pub target : WellTyped generators d T
   pub source_labels : HasLabelsBelow x.dim d S
   pub target_labels : HasLabelsBelow x.dim d T
   pub parallel : Parallel d S T
 
-pub good_ends : (generators : List Generator) (x : Label) (s t : Tree) → x.dim ≡ suc (dimension_of s) → IsFullyGoodBoundary generators s t
+pub good_ends : (generators : List Generator) (x : Label) (s t : Tree) → x.dim ≡ suc (dimension_of s) → IsGoodBoundary generators s t
     → AreGoodEnds generators x (dimension_of s) (dia (dimension_of s) s) (dia (dimension_of s) t)
 good_ends generators x s t dims b =
     let d : ℕ = dimension_of s in
     let same : dimension_of t ≡ d = sym b.parallel.dims in
     let shape : IsDiagram d t = subst (λ (n : ℕ). IsDiagram n t) same b.target.shape in
-    let typed : FullyTyped generators d (dia d t) = subst (λ (n : ℕ). FullyTyped generators n (dia n t)) same b.target.typed in
+    let typed : WellTyped generators d (dia d t) = subst (λ (n : ℕ). WellTyped generators n (dia n t)) same b.target.typed in
     record {
       dims = dims;
       source = b.source.typed;
@@ -100,8 +100,8 @@ generator_of generators x e =
     (r.0, record { found = r.1; dim = r.2 })
 
 -- it is good over those before it
-pub generator_is_good : (generators : List Generator) (x : Label) (g : Generator) → IsFullyGoodSignature generators → IsGeneratorAt generators x g
-    → IsFullyGoodGenerator (take x.number generators) g
+pub generator_is_good : (generators : List Generator) (x : Label) (g : Generator) → IsGoodSignature generators → IsGeneratorAt generators x g
+    → IsGoodGenerator (take x.number generators) g
 generator_is_good generators x g s a =
     let l = slice_get_within generators x.number g a.found in
-    subst (IsFullyGoodGenerator (take x.number generators)) (get_or_from_slice_get generators x.number g None a.found) (s.good x.number l)
+    subst (IsGoodGenerator (take x.number generators)) (get_or_from_slice_get generators x.number g None a.found) (s.good x.number l)

@@ -10,11 +10,12 @@ use Rattle.diagram_terms.specs.Family.{Dia}
 use Rattle.diagram_terms.specs.Paths.{point_label}
 use Rattle.diagram_terms.specs.PointOrder.{point_at}
 use Rattle.diagram_terms.specs.Points.{Point, points}
-use Rattle.diagram_terms.specs.Typing.{Generator, has_dim, is_generator, first_of}
+use Rattle.diagram_terms.specs.FirstOf.{first_of}
+use Rattle.diagram_terms.specs.Generators.{Generator, has_dim, is_generator}
 use Rattle.diagram_terms.specs.NormalForms.{normal_diagram}
 use Rattle.diagram_terms.specs.SameDiagrams.{same_diagram}
 use Rattle.diagram_terms.specs.Neighbourhoods.{neighbourhood}
-use Rattle.diagram_terms.specs.FullTyping.{under_identities, normal_type, no_generator, other_type, fault_at, verdict, fault_in, first_fault_among}
+use Rattle.diagram_terms.specs.Typing.{under_identities, normal_type, no_generator, other_type, fault_at, verdict, fault_in, first_fault_among}
 use Rattle.region_laws.proofs.ListedPoints.{points_are_listed}
 use Rattle.typing_laws.specs.Laws.{FaultsDependOnLabels, MoreGeneratorsKeepTypeFaults, LabelFaultsDependOnOne}
 use Rattle.typing_laws.proofs.FaultLists.{first-agree}

@@ -12,7 +12,7 @@ use Rattle.diagram_terms.specs.Family.{Dia, Arr, reg, sing, fwd, bwd}
 use Rattle.diagram_terms.specs.Loose.{is_identity}
 use Rattle.diagram_terms.specs.Plain.{Plain}
 use Rattle.diagram_terms.specs.Points.{inside, points}
-use Rattle.diagram_terms.specs.Typing.{Generator}
+use Rattle.diagram_terms.specs.Generators.{Generator}
 use Rattle.diagram_terms.specs.Valid.{Valid}
 use Rattle.diagram_terms.proofs.LooseTests.{is_identity_decides}
 use Rattle.diagram_terms.specs.NormalForms.{normal_diagram}
@@ -24,7 +24,7 @@ use Rattle.diagram_terms.specs.Neighbourhoods.{neighbourhood, one_height}
 use Rattle.region_laws.proofs.Neighbourhoods.{singular_neighbourhoods}
 use Rattle.region_laws.proofs.PathsInCuts.{quiet_paths_go_on}
 use Rattle.region_laws.proofs.PointRegions.{points_are_paths}
-use Rattle.diagram_terms.specs.FullTyping.{Failing, fault_at, verdict, fault_in, first_fault_among}
+use Rattle.diagram_terms.specs.Typing.{Failing, fault_at, verdict, fault_in, first_fault_among}
 use Rattle.diagram_terms.specs.DecidingPoints.{singular_points}
 use Rattle.diagram_terms.specs.TypeCheck.{fault_inside, first_over, singular_path, is_quiet, first_singular_unless_quiet}
 use Rattle.typing_laws.specs.Deciding.{fault_over, first_deciding_unless_quiet}

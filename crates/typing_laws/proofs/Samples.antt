@@ -13,14 +13,14 @@ use Rattle.diagram_terms.specs.Dimension.{dimension_of}
 use Rattle.diagram_terms.specs.Dual.{dual, after}
 use Rattle.diagram_terms.specs.Family.{Ends, Dia, Arr, no_dia, no_arr}
 use Rattle.diagram_terms.specs.Tree.{point, zig, ends, zag, label_at, from_at, to_at, regs, sings, fwds, bwds, heights}
-use Rattle.diagram_terms.specs.Typing.{Generator}
+use Rattle.diagram_terms.specs.Generators.{Generator}
 use Rattle.diagram_terms.specs.Factors.{factor_through}
 use Rattle.diagram_terms.specs.NormalForms.{normal_form}
 use Rattle.diagram_terms.specs.Regions.{no_region, whole_region}
 use Rattle.diagram_terms.specs.Preimages.{preimage}
 use Rattle.diagram_terms.specs.PointRegions.{point_region}
 use Rattle.diagram_terms.specs.Cuts.{cut_arrow, cut_diagram}
-use Rattle.diagram_terms.specs.FullTyping.{normal_type, verdict, first_full_point_fault, first_full_fault}
+use Rattle.diagram_terms.specs.Typing.{normal_type, verdict, first_point_fault, first_fault}
 use Rattle.diagram_terms.specs.DecidingPoints.{deciding_points}
 use Rattle.typing_laws.specs.Deciding.{first_deciding, first_sharing, first_deciding_unless_quiet}
 use Rattle.diagram_terms.specs.TypeCheck.{first_short}
@@ -59,29 +59,29 @@ s0 = height_kind.S 0
 
 -- ---- dimension 1
 
-loop_is_typed : first_full_fault (generators f) 1 (loop f) ≡ None
+loop_is_typed : first_fault (generators f) 1 (loop f) ≡ None
 loop_is_typed =
     unfold verdict normal_type normal_form factor_through comp ident dual after point_region preimage cut_diagram cut_arrow whole_region no_region
     cone mid type_over dimension_of point zig ends zag label_at from_at to_at regs sings fwds bwds heights no_dia no_arr in refl
 
 -- the identity of x has a type, and that of f has none, since f has dimension 1
-identity_of_x : first_full_fault (generators f) 1 (identity_diagram 0 x) ≡ None
+identity_of_x : first_fault (generators f) 1 (identity_diagram 0 x) ≡ None
 identity_of_x =
     unfold verdict normal_type normal_form factor_through comp ident dual after point_region preimage cut_diagram cut_arrow whole_region no_region
     cone mid type_over dimension_of point zig ends zag label_at from_at to_at regs sings fwds bwds heights no_dia no_arr in refl
 
-identity_of_f : first_full_fault (generators f) 1 (identity_diagram 0 f) ≡ Some (fault.TypeAt (r0 ∷ []))
+identity_of_f : first_fault (generators f) 1 (identity_diagram 0 f) ≡ Some (fault.TypeAt (r0 ∷ []))
 identity_of_f =
     unfold verdict normal_type normal_form factor_through comp ident dual after point_region preimage cut_diagram cut_arrow whole_region no_region
     cone mid type_over dimension_of point zig ends zag label_at from_at to_at regs sings fwds bwds heights no_dia no_arr in refl
 
 -- a label of a number without a generator, and one of another dimension
-no_generator : first_full_fault (generators f) 1 (loop (cell 4 1)) ≡ Some (fault.LabelAt (s0 ∷ []))
+no_generator : first_fault (generators f) 1 (loop (cell 4 1)) ≡ Some (fault.LabelAt (s0 ∷ []))
 no_generator =
     unfold verdict normal_type normal_form factor_through comp ident dual after point_region preimage cut_diagram cut_arrow whole_region no_region
     cone mid type_over dimension_of point zig ends zag label_at from_at to_at regs sings fwds bwds heights no_dia no_arr in refl
 
-other_dimension : first_full_fault (generators f) 1 (loop (cell 1 2)) ≡ Some (fault.LabelAt (s0 ∷ []))
+other_dimension : first_fault (generators f) 1 (loop (cell 1 2)) ≡ Some (fault.LabelAt (s0 ∷ []))
 other_dimension =
     unfold verdict normal_type normal_form factor_through comp ident dual after point_region preimage cut_diagram cut_arrow whole_region no_region
     cone mid type_over dimension_of point zig ends zag label_at from_at to_at regs sings fwds bwds heights no_dia no_arr in refl
@@ -94,14 +94,14 @@ loose =
     let leg : Arr 1 = record { heights = []; regs = pair x f ∷ []; sings = [] } in
     cospan 1 (identity_diagram 0 x) leg (identity_diagram 0 f) leg (identity_diagram 0 x)
 
-loose_leg : first_full_fault (generators f) 2 loose ≡ Some (fault.LooseAt (step.F 0 ∷ []))
+loose_leg : first_fault (generators f) 2 loose ≡ Some (fault.LooseAt (step.F 0 ∷ []))
 loose_leg =
     unfold verdict normal_type normal_form factor_through comp ident dual after point_region preimage cut_diagram cut_arrow whole_region no_region
     cone mid type_over dimension_of point zig ends zag label_at from_at to_at regs sings fwds bwds heights no_dia no_arr in refl
 
 -- without the other legs its first failing point would be over a regular height after a singular one, and no point that decides
 -- has its label
-loose_point : first_full_point_fault (generators f) 2 loose ≡ Some (fault.TypeAt (s0 ∷ r0 ∷ []))
+loose_point : first_point_fault (generators f) 2 loose ≡ Some (fault.TypeAt (s0 ∷ r0 ∷ []))
 loose_point =
     unfold verdict normal_type normal_form factor_through comp ident dual after point_region preimage cut_diagram cut_arrow whole_region no_region
     cone mid type_over dimension_of point zig ends zag label_at from_at to_at regs sings fwds bwds heights no_dia no_arr in refl
@@ -115,7 +115,7 @@ loose_missed =
 abbrev type_of_a : Dia 2
 type_of_a = type_over 1 (loop f) (loop f) a
 
-type_is_typed : first_full_fault (generators f) 2 type_of_a ≡ None
+type_is_typed : first_fault (generators f) 2 type_of_a ≡ None
 type_is_typed =
     unfold verdict normal_type normal_form factor_through comp ident dual after point_region preimage cut_diagram cut_arrow whole_region no_region
     cone mid type_over dimension_of point zig ends zag label_at from_at to_at regs sings fwds bwds heights no_dia no_arr in refl
@@ -128,7 +128,7 @@ points_that_decide = unfold cone mid type_over no_dia no_arr in refl
 abbrev mistyped : Option Fault
 mistyped = Some (fault.TypeAt (s0 ∷ s0 ∷ []))
 
-other_type : first_full_fault (generators g) 2 type_of_a ≡ mistyped
+other_type : first_fault (generators g) 2 type_of_a ≡ mistyped
 other_type =
     unfold verdict normal_type normal_form factor_through comp ident dual after point_region preimage cut_diagram cut_arrow whole_region no_region
     cone mid type_over dimension_of point zig ends zag label_at from_at to_at regs sings fwds bwds heights no_dia no_arr in refl
@@ -159,12 +159,12 @@ other_short =
 abbrev circular : List Generator
 circular = Some (point (cell 0 1), point (cell 0 1)) ∷ []
 
-circular_identity : first_full_fault circular 1 (identity_diagram 0 (cell 0 1)) ≡ None
+circular_identity : first_fault circular 1 (identity_diagram 0 (cell 0 1)) ≡ None
 circular_identity =
     unfold verdict normal_type normal_form factor_through comp ident dual after point_region preimage cut_diagram cut_arrow whole_region no_region
     cone mid type_over dimension_of point zig ends zag label_at from_at to_at regs sings fwds bwds heights no_dia no_arr in refl
 
-circular_slice : first_full_fault circular 0 (cell 0 1) ≡ Some (fault.TypeAt [])
+circular_slice : first_fault circular 0 (cell 0 1) ≡ Some (fault.TypeAt [])
 circular_slice =
     unfold verdict normal_type normal_form factor_through comp ident dual after point_region preimage cut_diagram cut_arrow whole_region no_region
     cone mid type_over dimension_of point zig ends zag label_at from_at to_at regs sings fwds bwds heights no_dia no_arr in refl
@@ -187,7 +187,7 @@ contraction = record {
 abbrev contracted : Dia 3
 contracted = cospan 2 twice_a contraction type_of_a (ident 2 type_of_a) type_of_a
 
-contracted_twice : first_full_fault (generators f) 3 contracted ≡ Some (fault.TypeAt (s0 ∷ s0 ∷ s0 ∷ []))
+contracted_twice : first_fault (generators f) 3 contracted ≡ Some (fault.TypeAt (s0 ∷ s0 ∷ s0 ∷ []))
 contracted_twice =
     unfold verdict normal_type normal_form factor_through comp ident dual after point_region preimage cut_diagram cut_arrow whole_region no_region
     cone mid type_over dimension_of point zig ends zag label_at from_at to_at regs sings fwds bwds heights no_dia no_arr in refl

@@ -8,7 +8,8 @@ use Rattle.diagram_terms.specs.Cone.{cospan}
 use Rattle.diagram_terms.specs.Dual.{upto}
 use Rattle.diagram_terms.specs.Family.{Dia, reg, sing, fwd, bwd}
 use Rattle.diagram_terms.specs.Points.{Point, point_inside, inside, points}
-use Rattle.diagram_terms.specs.Typing.{Generator, first_of}
+use Rattle.diagram_terms.specs.FirstOf.{first_of}
+use Rattle.diagram_terms.specs.Generators.{Generator}
 use Rattle.diagram_terms.specs.Valid.{Valid}
 use Rattle.plain_laws.proofs.Cospans.{valid_cospan}
 use Rattle.diagram_terms.specs.NormalForms.{normal_diagram}
@@ -20,7 +21,7 @@ use Rattle.diagram_terms.specs.Neighbourhoods.{neighbourhood, one_height, cut_he
 use Rattle.region_laws.proofs.Neighbourhoods.{singular_neighbourhoods}
 use Rattle.region_laws.proofs.PathsInCuts.{paths_go_on_in_cuts}
 use Rattle.region_laws.proofs.WholeRegions.{preimages_of_whole_regions, cuts_of_arrows_at_whole_regions, cuts_at_whole_regions}
-use Rattle.diagram_terms.specs.FullTyping.{fault_at, verdict, fault_in, first_fault_among}
+use Rattle.diagram_terms.specs.Typing.{fault_at, verdict, fault_in, first_fault_among}
 use Rattle.diagram_terms.specs.DecidingPoints.{singular_points}
 use Rattle.diagram_terms.specs.TypeCheck.{fault_inside, first_over, singular_path}
 use Rattle.typing_laws.specs.Deciding.{fault_over, first_singular, first_sharing}

@@ -13,7 +13,8 @@ use Rattle.diagram_terms.specs.Loose.{first_loose_leg}
 use Rattle.diagram_terms.specs.Places.{first_bad_place}
 use Rattle.diagram_terms.specs.Plain.{Plain}
 use Rattle.diagram_terms.specs.Points.{Point, point_inside, inside, points}
-use Rattle.diagram_terms.specs.Typing.{Generator, first_of}
+use Rattle.diagram_terms.specs.FirstOf.{first_of}
+use Rattle.diagram_terms.specs.Generators.{Generator}
 use Rattle.diagram_terms.specs.Valid.{ValidArrow, Valid}
 use Rattle.diagram_terms.proofs.FirstFaults.{no_bad_place}
 use Rattle.diagram_terms.proofs.LooseTests.{diagram_lengths, no_first_loose_leg}
@@ -24,7 +25,7 @@ use Rattle.diagram_terms.specs.PointRegions.{LiesIn, at_sing, point_region}
 use Rattle.diagram_terms.specs.Preimages.{preimage}
 use Rattle.region_laws.proofs.DeepPoints.{points_lie_under_deep_points}
 use Rattle.region_laws.proofs.PointRegions.{point_region-sing, at_sing-before, at_sing-behind}
-use Rattle.diagram_terms.specs.FullTyping.{fault_in, first_fault_among, first_full_point_fault, IsTypedAt, IsFullyGoodSignature}
+use Rattle.diagram_terms.specs.Typing.{fault_in, first_fault_among, first_point_fault, IsTypedAt, IsGoodSignature}
 use Rattle.diagram_terms.specs.DecidingPoints.{singular_points}
 use Rattle.diagram_terms.specs.TypeCheck.{fault_inside, first_over, first_singular_unless_quiet, first_short}
 use Rattle.typing_laws.specs.Deciding.{fault_over}
@@ -38,7 +39,7 @@ use Rattle.typing_laws.proofs.WellTypedness.{all_points, no_fault_at, no_point_f
 
 -- ---- beside a singular height
 
-module _ (d : ℕ) (generators : List Generator) (X : Dia (suc d)) (k : ℕ) (s : IsFullyGoodSignature generators) (v : Valid (suc d) X) (l : k < length X.sings)
+module _ (d : ℕ) (generators : List Generator) (X : Dia (suc d)) (k : ℕ) (s : IsGoodSignature generators) (v : Valid (suc d) X) (l : k < length X.sings)
     (none : first_fault_among (fault_in generators (suc d) X) (inside (height_kind.S k) (points d (sing d X k))) ≡ None) where
   abbrev f : Point → Option Fault
   f = fault_in generators (suc d) X
@@ -100,8 +101,8 @@ module _ (A B C : ℕ → Option Fault) (n : ℕ) (next : (k : ℕ) → k < n �
       after_first (B a) _ _ (λ quiet. ap (λ (o : Option Fault). first_of o later) (ap A z ∙ next a la quiet))
       ∙ ap (λ (o : Option Fault). first_of o later) here)
 
-module _ (d : ℕ) (generators : List Generator) (X : Dia (suc d)) (s : IsFullyGoodSignature generators) (v : Valid (suc d) X) (p : Plain (suc d) X)
-    (R : Option Fault) (first : R ≡ first_full_point_fault generators d (reg d X 0)) where
+module _ (d : ℕ) (generators : List Generator) (X : Dia (suc d)) (s : IsGoodSignature generators) (v : Valid (suc d) X) (p : Plain (suc d) X)
+    (R : Option Fault) (first : R ≡ first_point_fault generators d (reg d X 0)) where
   abbrev g : Point → Option Fault
   g = fault_in generators (suc d) X
 
@@ -124,7 +125,7 @@ module _ (d : ℕ) (generators : List Generator) (X : Dia (suc d)) (s : IsFullyG
       ∙ ap (λ (o : Option Fault). first_of o (first_fault_among (fault_over generators d X k) (singular_points d (sing d X k)))) none
       ∙ sym (unless_quiet_over generators d X v p k l none)
 
-  short_step : first_of (option_map (fault_inside (height_kind.R 0)) R) (first_over sings_unless_quiet (upto (length X.sings))) ≡ first_full_point_fault generators (suc d) X
+  short_step : first_of (option_map (fault_inside (height_kind.R 0)) R) (first_over sings_unless_quiet (upto (length X.sings))) ≡ first_point_fault generators (suc d) X
   short_step =
       let n : ℕ = length X.sings in
       ap (λ (o : Option Fault). first_of (option_map (fault_inside (height_kind.R 0)) o) (first_over sings_unless_quiet (upto n))) first
@@ -177,12 +178,12 @@ new_heights_decide d generators X s v p w =
     let n : ℕ = length X.sings in
     let unless_quiet : ℕ → Option Fault = λ k. first_singular_unless_quiet generators d d 1 (one_height d X k) (sing d X k) in
     let F : ℕ → Option Fault = λ k. option_map (fault_inside (height_kind.S k)) (unless_quiet k) in
-    let first : first_full_point_fault generators d (reg d X 0) ≡ None = (no_point_faults d generators (reg d X 0)).1 w.typed in
-    let R : Option Fault = option_map (fault_inside (height_kind.R 0)) (first_full_point_fault generators d (reg d X 0)) in
+    let first : first_point_fault generators d (reg d X 0) ≡ None = (no_point_faults d generators (reg d X 0)).1 w.typed in
+    let R : Option Fault = option_map (fault_inside (height_kind.R 0)) (first_point_fault generators d (reg d X 0)) in
     let none : R ≡ None = ap (option_map (fault_inside (height_kind.R 0))) first in
-    let whole : first_over F (upto n) ≡ first_full_point_fault generators (suc d) X =
+    let whole : first_over F (upto n) ≡ first_point_fault generators (suc d) X =
     sym (ap (λ (o : Option Fault). first_of o (first_over F (upto n))) none)
-    ∙ short_step d generators X s v p (first_full_point_fault generators d (reg d X 0)) refl in (
+    ∙ short_step d generators X s v p (first_point_fault generators d (reg d X 0)) refl in (
       λ t. λ k l. map_none (fault_inside (height_kind.S k)) (unless_quiet k)
           (none_over F n 0 (whole ∙ (no_point_faults (suc d) generators X).1 t.typed) k (omega arith) (omega arith)),
       λ h. record {

@@ -13,7 +13,7 @@ use Rattle.diagram_terms.specs.Dimension.{dimension_of}
 use Rattle.diagram_terms.specs.Family.{Dia, Arr}
 use Rattle.diagram_terms.specs.GeneratorTypes.{label_of}
 use Rattle.diagram_terms.specs.Least.{Leg}
-use Rattle.diagram_terms.specs.Typing.{Generator, is_generator}
+use Rattle.diagram_terms.specs.Generators.{Generator, is_generator}
 use Rattle.diagram_terms.specs.Valid.{Valid}
 use Rattle.diagram_terms.proofs.Glue.{dia-dia_tree}
 use Rattle.map_laws.proofs.ValidIdentities.{identities_are_valid}
@@ -38,7 +38,7 @@ use Rattle.region_laws.proofs.PointsInCuts.{points_lie_in_cuts}
 use Rattle.region_laws.proofs.Preimages.{preimages_under_identities}
 use Rattle.region_laws.proofs.PulledPoints.{points_pull_back, degeneracies_pull_back, degeneracies_of_neighbourhoods, every_point_is_pulled}
 use Rattle.typing_laws.specs.Alike.{IsAlike}
-use Rattle.diagram_terms.specs.FullTyping.{under_identities, normal_type, is_type, IsTypedAt, FullyTyped, IsFullyGoodSignature}
+use Rattle.diagram_terms.specs.Typing.{under_identities, normal_type, is_type, IsTypedAt, WellTyped, IsGoodSignature}
 use Rattle.typing_laws.specs.Laws.{NormalFormsHavePoints, NormalFormsDecideTypes, TypedRegions, DeepPointsDecide}
 use Rattle.typing_laws.proofs.DecidingPoints.{at_point}
 use Rattle.typing_laws.proofs.GoodGenerators.{and_left, and_right, generator_of}
@@ -107,15 +107,15 @@ tower_normal k T (suc m) = identity_diagrams_keep_normal_forms (above k m) (unde
     ∙ ap (identity_diagram (above k m)) (tower_normal k T m)
 
 -- and that it is well typed
-module _ (generators : List Generator) (k : ℕ) (T : Dia k) (w : FullyTyped generators k T) where
-  tower_typed : (m : ℕ) → FullyTyped generators (above k m) (under_identities (above k m) m (dia_tree k T))
-  tower_typed zero = subst (FullyTyped generators k) (sym (dia-dia_tree k T)) w
+module _ (generators : List Generator) (k : ℕ) (T : Dia k) (w : WellTyped generators k T) where
+  tower_typed : (m : ℕ) → WellTyped generators (above k m) (under_identities (above k m) m (dia_tree k T))
+  tower_typed zero = subst (WellTyped generators k) (sym (dia-dia_tree k T)) w
   tower_typed (suc m) = identity_diagrams_are_well_typed (above k m) generators (under_identities (above k m) m (dia_tree k T)) (tower_typed m)
 
 -- Z is well typed and has the normal form M
 record HasTypedSource (generators : List Generator) (n : ℕ) (M : Dia n) : Type 0 where
   whole : Dia n
-  typed : FullyTyped generators n whole
+  typed : WellTyped generators n whole
   normal : normal_diagram n whole ≡ M
 
 pub above-minus : (k m n : ℕ) → m + k ≡ n → above k m ≡ n
@@ -123,7 +123,7 @@ above-minus k zero n e = omega arith
 above-minus k (suc m) zero e = absurd (omega arith)
 above-minus k (suc m) (suc n) e = ap suc (above-minus k m n (omega arith))
 
-tower_source : (generators : List Generator) (n k : ℕ) (T : Dia k) → FullyTyped generators k T → k ≤ n
+tower_source : (generators : List Generator) (n k : ℕ) (T : Dia k) → WellTyped generators k T → k ≤ n
     → HasTypedSource generators n (under_identities n (n - k) (dia_tree k (normal_diagram k T)))
 tower_source generators n k T w l =
     subst (λ (j : ℕ). HasTypedSource generators j (under_identities j (n - k) (dia_tree k (normal_diagram k T)))) (above-minus k (n - k) n (omega arith))
@@ -136,10 +136,10 @@ tower_source generators n k T w l =
 -- the type of a generator, as a well typed diagram
 record HasType (generators : List Generator) (x : Label) : Type 0 where
   diagram : Dia x.dim
-  typed : FullyTyped generators x.dim diagram
+  typed : WellTyped generators x.dim diagram
   normal : dia_tree x.dim (normal_diagram x.dim diagram) ≡ normal_type x (slice_get generators x.number)
 
-type_at : (generators : List Generator) (i : ℕ) (g : Generator) → IsFullyGoodSignature generators → slice_get generators i ≡ Some g
+type_at : (generators : List Generator) (i : ℕ) (g : Generator) → IsGoodSignature generators → slice_get generators i ≡ Some g
     → HasType generators (label_of i g)
 unfolding normal_type normal_form
 type_at generators i None s found = record {
@@ -156,14 +156,14 @@ type_at generators i (Some (t, u)) s found =
       normal = ap (normal_type x) (sym found);
     }
 
-type_of_label : (generators : List Generator) (x : Label) → IsFullyGoodSignature generators → is_generator generators x ≡ true → HasType generators x
+type_of_label : (generators : List Generator) (x : Label) → IsGoodSignature generators → is_generator generators x ≡ true → HasType generators x
 type_of_label generators x s known =
     let r = generator_of generators x known in
     let a = r.1 in
     let same : label_of x.number r.0 ≡ x = λ i. record { number = x.number; dim = a.dim i } in
     subst (HasType generators) same (type_at generators x.number r.0 s a.found)
 
-typed_source : (generators : List Generator) (n : ℕ) (x : Label) (M : Dia n) → IsFullyGoodSignature generators → is_generator generators x ≡ true
+typed_source : (generators : List Generator) (n : ℕ) (x : Label) (M : Dia n) → IsGoodSignature generators → is_generator generators x ≡ true
     → is_type generators n x M ≡ true → HasTypedSource generators n M
 typed_source generators n x M s known type =
     let t = type_of_label generators x s known in

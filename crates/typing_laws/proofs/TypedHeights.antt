@@ -5,7 +5,7 @@ use Rattle.diagram_terms.specs.declared.place.Height.TheVariants as height_kind
 use Rattle.diagram_terms.specs.Composite.{identity_diagram}
 use Rattle.diagram_terms.specs.Cone.{source, target, cospan}
 use Rattle.diagram_terms.specs.Family.{Dia, reg, sing, fwd, bwd}
-use Rattle.diagram_terms.specs.Typing.{Generator}
+use Rattle.diagram_terms.specs.Generators.{Generator}
 use Rattle.diagram_terms.specs.Valid.{Valid}
 use Rattle.plain_laws.proofs.Cospans.{below_one, below_two, plain_cospan}
 use Rattle.diagram_terms.specs.NormalForms.{normal_diagram}
@@ -14,7 +14,7 @@ use Rattle.occurrence_laws.proofs.ListParts.{by_parts, by_parts_to}
 use Rattle.occurrence_laws.proofs.SumParts.{sum-length, sum-reg_first, sum-reg_second, sum-reg_next, sum-sing_first, sum-sing_second, sum-fwd_first, sum-fwd_second, sum-bwd_first, sum-bwd_second, good_sum}
 use Rattle.diagram_terms.specs.Paths.{IsPointOf, point_label}
 use Rattle.diagram_terms.specs.Neighbourhoods.{neighbourhood, one_height}
-use Rattle.diagram_terms.specs.FullTyping.{IsTypedAt, FullyTyped}
+use Rattle.diagram_terms.specs.Typing.{IsTypedAt, WellTyped}
 use Rattle.typing_laws.specs.TypedParts.{IsTypedSlice, IsTypedHeight}
 use Rattle.typing_laws.specs.Laws.{WellTypedByHeights, HeightsAreWellTyped, SumsAreWellTyped}
 use Rattle.typing_laws.proofs.DecidingPoints.{at_point}
@@ -95,7 +95,7 @@ same_height : (d : ℕ) (X Y : Dia (suc d)) (i k : ℕ) → reg d X i ≡ reg d 
     → bwd d X i ≡ bwd d Y k → reg d X (suc i) ≡ reg d Y (suc k) → one_height d X i ≡ one_height d Y k
 same_height d X Y i k a f m g b = λ t. cospan d (a t) (f t) (m t) (g t) (b t)
 
-module _ (d : ℕ) (generators : List Generator) (X Y : Dia (suc d)) (wX : FullyTyped generators (suc d) X) (wY : FullyTyped generators (suc d) Y)
+module _ (d : ℕ) (generators : List Generator) (X Y : Dia (suc d)) (wX : WellTyped generators (suc d) X) (wY : WellTyped generators (suc d) Y)
     (meet : target d X ≡ source d Y) where
   abbrev Z : Dia (suc d)
   Z = diagram_sum d X Y
@@ -130,7 +130,7 @@ module _ (d : ℕ) (generators : List Generator) (X Y : Dia (suc d)) (wX : Fully
             (sym (sum-sing_second d X Y vX vY meet k)) (sym (sum-bwd_second d X Y vX vY meet k)) (sym (sum-reg_next d X Y vX vY meet k));
       })
 
-  sum_is_well_typed : FullyTyped generators (suc d) Z
+  sum_is_well_typed : WellTyped generators (suc d) Z
   sum_is_well_typed =
       let g = good_sum d X Y (record { valid = vX; plain = wX.plain }) (record { valid = vY; plain = wY.plain }) meet in
       let n = sum-length d X Y in

@@ -13,7 +13,7 @@ use Rattle.diagram_terms.specs.GeneratorTypes.{label_of}
 use Rattle.diagram_terms.specs.Plain.{Plain}
 use Rattle.diagram_terms.specs.Points.{Point}
 use Rattle.diagram_terms.specs.Tree.{Tree, point, label_at-point}
-use Rattle.diagram_terms.specs.Typing.{Generator, has_dim, is_generator}
+use Rattle.diagram_terms.specs.Generators.{Generator, has_dim, is_generator}
 use Rattle.diagram_terms.specs.Valid.{Valid}
 use Rattle.diagram_terms.proofs.Glue.{dia-dia_tree}
 use Rattle.plain_laws.proofs.ConeParts.{mid-zero, cone_end, mid-suc, type_over-cospan}
@@ -29,7 +29,7 @@ use Rattle.diagram_terms.specs.Cuts.{cut_diagram}
 use Rattle.diagram_terms.specs.Neighbourhoods.{neighbourhood}
 use Rattle.region_laws.proofs.PointRegions.{point_region-sing}
 use Rattle.region_laws.proofs.WholeRegions.{preimages_of_whole_regions, cuts_at_whole_regions}
-use Rattle.diagram_terms.specs.FullTyping.{under_identities, normal_type, is_type, IsTypedAt, FullyTyped, IsFullyGoodSignature}
+use Rattle.diagram_terms.specs.Typing.{under_identities, normal_type, is_type, IsTypedAt, WellTyped, IsGoodSignature}
 use Rattle.diagram_terms.specs.DecidingPoints.{all_singular}
 use Rattle.typing_laws.specs.Laws.{LabelsAreWellTyped, TypesAreWellTyped}
 use Rattle.typing_laws.proofs.DecidingPoints.{at_point}
@@ -104,7 +104,7 @@ typed_alike generators n X Y p q label normal t = record {
 
 -- ---- the type
 
-module _ (generators : List Generator) (i : ℕ) (s t : Tree) (good : IsFullyGoodSignature generators)
+module _ (generators : List Generator) (i : ℕ) (s t : Tree) (good : IsGoodSignature generators)
     (found : slice_get generators i ≡ Some (Some (s, t))) where
   abbrev d : ℕ
   d = dimension_of s
@@ -165,7 +165,7 @@ module _ (generators : List Generator) (i : ℕ) (s t : Tree) (good : IsFullyGoo
   over_reg : (j : ℕ) (hs : List Height) → j ≤ 1 → IsPointOf d (reg d C j) hs → HasType (height_kind.R j ∷ hs)
   over_reg j hs l q =
       let e = ends in
-      let w : FullyTyped generators d (reg d C j) = below_two (λ j. FullyTyped generators d (reg d C j))
+      let w : WellTyped generators d (reg d C j) = below_two (λ j. WellTyped generators d (reg d C j))
       (more_generators_keep_types d i generators S e.source) (more_generators_keep_types d i generators T e.target) j (omega arith) in
       typed_over_reg d generators C j (record { heights = hs; label = point_label d (reg d C j) hs })
       (at_point d (reg d C j) (IsTypedAt generators d (reg d C j)) w.typed hs q)
@@ -193,13 +193,13 @@ module _ (generators : List Generator) (i : ℕ) (s t : Tree) (good : IsFullyGoo
   at_each (height_kind.S zero ∷ hs) q = over_sing hs q.1
   at_each (height_kind.S (suc k) ∷ hs) q = absurd (let l = q.0 in omega arith)
 
-  type_is_well_typed : FullyTyped generators (suc d) (type_over d S T x)
-  type_is_well_typed = subst (FullyTyped generators (suc d)) (sym (type_over-cospan d S T x))
+  type_is_well_typed : WellTyped generators (suc d) (type_over d S T x)
+  type_is_well_typed = subst (WellTyped generators (suc d)) (sym (type_over-cospan d S T x))
       (record { valid = valid; plain = plain; typed = all_points (suc d) C (IsTypedAt generators (suc d) C) at_each })
 
 pub types_are_well_typed : (d : ℕ) → TypesAreWellTyped d
 types_are_well_typed d generators i s t good found e =
-    subst (λ (n : ℕ). FullyTyped generators (suc n) (type_over n (dia n s) (dia n t) (label_of i (Some (s, t))))) e
+    subst (λ (n : ℕ). WellTyped generators (suc n) (type_over n (dia n s) (dia n t) (label_of i (Some (s, t))))) e
     (type_is_well_typed generators i s t good found)
 
 -- ---- a generator without a boundary

@@ -11,13 +11,13 @@ use Rattle.diagram_terms.specs.GeneratorTypes.{label_of, type_of_generator}
 use Rattle.diagram_terms.specs.ConeTrees.{type_tree}
 use Rattle.diagram_terms.specs.OnTrees.{on_diagram}
 use Rattle.diagram_terms.specs.Tree.{Tree, point, label_at-point}
-use Rattle.diagram_terms.specs.Typing.{Generator, generator_dim, has_dim, is_generator}
+use Rattle.diagram_terms.specs.Generators.{Generator, generator_dim, has_dim, is_generator}
 use Rattle.diagram_terms.proofs.Glue.{dia-dia_tree}
 use Rattle.diagram_terms.specs.Constants.{above}
 use Rattle.diagram_terms.specs.NormalForms.{normal_form, normal_diagram}
 use Rattle.diagram_terms.specs.SameDiagrams.{same_diagram}
 use Rattle.normal_form_laws.proofs.SameDiagrams.{same_diagrams_are_decided}
-use Rattle.diagram_terms.specs.FullTyping.{no_generator, other_type, verdict, under_identities, normal_type, is_type}
+use Rattle.diagram_terms.specs.Typing.{no_generator, other_type, verdict, under_identities, normal_type, is_type}
 use Rattle.typing_laws.specs.Laws.{TypesPassAtOnce}
 use Rattle.typing_laws.proofs.Transfer.{tower_normal, above-minus}
 

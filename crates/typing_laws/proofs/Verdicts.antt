@@ -10,7 +10,7 @@ use Rattle.diagram_terms.specs.Decoded.{dia, dia_tree}
 use Rattle.diagram_terms.specs.Dimension.{dimension_of}
 use Rattle.diagram_terms.specs.Family.{Dia, reg}
 use Rattle.diagram_terms.specs.Tree.{Tree, sings-zig}
-use Rattle.diagram_terms.specs.Typing.{Generator, is_generator}
+use Rattle.diagram_terms.specs.Generators.{Generator, is_generator}
 use Rattle.diagram_terms.proofs.Glue.{dia-sings_len}
 use Rattle.diagram_terms.specs.NormalForms.{normal_diagram}
 use Rattle.diagram_terms.specs.SameDiagrams.{same_diagram}
@@ -19,7 +19,7 @@ use Rattle.normal_form_laws.proofs.SameDiagrams.{same_diagrams_are_decided}
 use Rattle.normal_form_laws.proofs.NormalDiagrams.{identity_diagrams_keep_normal_forms}
 use Rattle.diagram_terms.specs.Neighbourhoods.{neighbourhood}
 use Rattle.region_laws.proofs.Neighbourhoods.{regular_neighbourhoods, neighbourhoods_see_one_height}
-use Rattle.diagram_terms.specs.FullTyping.{under_identities, normal_type, is_type, Failing, no_generator, other_type, fault_at, verdict, IsFullyGoodSignature}
+use Rattle.diagram_terms.specs.Typing.{under_identities, normal_type, is_type, Failing, no_generator, other_type, fault_at, verdict, IsGoodSignature}
 use Rattle.diagram_terms.specs.TypeCheck.{fault_inside}
 use Rattle.typing_laws.specs.Laws.{NormalFormsOverRegularHeights, VerdictsOfIdentityDiagrams, FaultsOverRegularHeights, NormalFormsSeeOneHeight, FaultsSeeOneHeight}
 use Rattle.typing_laws.proofs.DecidingPoints.{fault_over_reg}
@@ -51,7 +51,7 @@ decoded_length d n N =
     ∙ ap length (sings-zig _ _ _ _)
     ∙ length-map N.sings (dia_tree n)
 
-type_has_height : (generators : List Generator) (x : Label) (g : Generator) (d : ℕ) → IsFullyGoodSignature generators → IsGeneratorAt generators x g
+type_has_height : (generators : List Generator) (x : Label) (g : Generator) (d : ℕ) → IsGoodSignature generators → IsGeneratorAt generators x g
     → x.dim ≡ suc d → length (dia (suc d) (normal_type x (slice_get generators x.number))).sings ≡ 1
 unfolding normal_type
 type_has_height generators x None d s a e = absurd (let z = a.dim in omega arith)
@@ -88,7 +88,7 @@ module _ (d : ℕ) (generators : List Generator) (x : Label) (M : Dia d) where
       ap (λ (t : Bool). t && same_diagram (suc d) (identity_diagram d M) (under_identities (suc d) (suc d - x.dim) N)) a
       ∙ sym (ap (λ (t : Bool). t && same_diagram d M (under_identities d (d - x.dim) N)) b)
 
-  type_at : (g : Generator) → IsFullyGoodSignature generators → IsGeneratorAt generators x g → x.dim ≡ suc d
+  type_at : (g : Generator) → IsGoodSignature generators → IsGeneratorAt generators x g → x.dim ≡ suc d
       → is_type generators (suc d) x (identity_diagram d M) ≡ is_type generators d x M
   type_at g s h e =
       let a = le-leb x.dim (suc d) (omega arith) in
@@ -103,7 +103,7 @@ module _ (d : ℕ) (generators : List Generator) (x : Label) (M : Dia d) where
       (λ i. a i && differ i)
       ∙ sym (ap (λ (t : Bool). t && same_diagram d M (under_identities d (d - x.dim) N)) b)
 
-  pub same_type : IsFullyGoodSignature generators → is_generator generators x ≡ true → is_type generators (suc d) x (identity_diagram d M) ≡ is_type generators d x M
+  pub same_type : IsGoodSignature generators → is_generator generators x ≡ true → is_type generators (suc d) x (identity_diagram d M) ≡ is_type generators d x M
   same_type s e =
       let g = generator_of generators x e in
       elim (cases_lt d x.dim) [

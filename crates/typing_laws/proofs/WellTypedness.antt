@@ -15,14 +15,15 @@ use Rattle.diagram_terms.specs.Loose.{first_loose_leg}
 use Rattle.diagram_terms.specs.Places.{first_bad_place}
 use Rattle.diagram_terms.specs.Plain.{Plain}
 use Rattle.diagram_terms.specs.Points.{Point, point_inside, points}
-use Rattle.diagram_terms.specs.Typing.{Generator, is_generator, has_dim, first_of}
+use Rattle.diagram_terms.specs.FirstOf.{first_of}
+use Rattle.diagram_terms.specs.Generators.{Generator, is_generator, has_dim}
 use Rattle.diagram_terms.proofs.FirstFaults.{no_bad_place}
 use Rattle.diagram_terms.proofs.LooseTests.{diagram_lengths, no_first_loose_leg}
 use Rattle.diagram_terms.specs.SameDiagrams.{same_diagram}
 use Rattle.diagram_terms.specs.NormalForms.{normal_diagram}
 use Rattle.diagram_terms.specs.Paths.{IsPointOf, point_label}
 use Rattle.diagram_terms.specs.Neighbourhoods.{neighbourhood}
-use Rattle.diagram_terms.specs.FullTyping.{under_identities, normal_type, is_type, no_generator, other_type, fault_at, verdict, fault_in, first_full_point_fault, IsTypedAt}
+use Rattle.diagram_terms.specs.Typing.{under_identities, normal_type, is_type, no_generator, other_type, fault_at, verdict, fault_in, first_point_fault, IsTypedAt}
 use Rattle.typing_laws.specs.Laws.{NoPointFaults, NoFaultMeansWellTyped, MoreGeneratorsKeepTypes, IdentityDiagramsAreWellTyped, RegularSlicesAreWellTyped, EndsAreWellTyped}
 use Rattle.typing_laws.proofs.FaultLists.{map_none, first-none, none-first}
 use Rattle.typing_laws.proofs.DecidingPoints.{IsLabelled, points_labelled, at_point}
@@ -71,8 +72,8 @@ no_fault_means_well_typed d generators t h =
     let plain = no_first_loose_leg d X (diagram_lengths d t h) in
     let typed = no_point_faults d generators X in
     let legs : Option Fault = option_map (λ steps. fault.LooseAt steps) (first_loose_leg d X) in
-    let all = none_of_told (λ p. fault.SquareAt p) (first_bad_place d X) (first_of legs (first_full_point_fault generators d X)) in
-    let later = none_of_told (λ steps. fault.LooseAt steps) (first_loose_leg d X) (first_full_point_fault generators d X) in (
+    let all = none_of_told (λ p. fault.SquareAt p) (first_bad_place d X) (first_of legs (first_point_fault generators d X)) in
+    let later = none_of_told (λ steps. fault.LooseAt steps) (first_loose_leg d X) (first_point_fault generators d X) in (
       λ e. (let a = all.0 e in
           let b = later.0 a.1 in
           record { valid = valid.0 a.0; plain = plain.0 b.0; typed = typed.0 b.1 }),

@@ -7,12 +7,13 @@ use Rattle.diagram_terms.specs.Constants.{above}
 use Rattle.diagram_terms.specs.DecidingPoints.{singular_points}
 use Rattle.diagram_terms.specs.Dual.{upto}
 use Rattle.diagram_terms.specs.Family.{Dia, no_dia, reg, sing}
-use Rattle.diagram_terms.specs.FullTyping.{fault_at, verdict, fault_in, first_fault_among}
+use Rattle.diagram_terms.specs.Typing.{fault_at, verdict, fault_in, first_fault_among}
 use Rattle.diagram_terms.specs.Neighbourhoods.{neighbourhood, one_height}
 use Rattle.diagram_terms.specs.NormalForms.{normal_diagram}
 use Rattle.diagram_terms.specs.Points.{Point}
 use Rattle.diagram_terms.specs.TypeCheck.{fault_inside, first_over, singular_path, first_singular_unless_quiet}
-use Rattle.diagram_terms.specs.Typing.{Generator, first_of}
+use Rattle.diagram_terms.specs.FirstOf.{first_of}
+use Rattle.diagram_terms.specs.Generators.{Generator}
 
 -- after t singular heights the first regular one comes
 abbrev pub IsTurn : ℕ → List Height → Type 0

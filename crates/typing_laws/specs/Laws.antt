@@ -17,7 +17,8 @@ use Rattle.diagram_terms.specs.Plain.{PlainArrow, Plain}
 use Rattle.diagram_terms.specs.Points.{Point, point_inside, inside, points}
 use Rattle.diagram_terms.specs.Loose.{first_loose_leg}
 use Rattle.diagram_terms.specs.Places.{first_bad_place}
-use Rattle.diagram_terms.specs.Typing.{Generator, generator_dim, first_of}
+use Rattle.diagram_terms.specs.FirstOf.{first_of}
+use Rattle.diagram_terms.specs.Generators.{Generator, generator_dim}
 use Rattle.diagram_terms.specs.Valid.{ValidArrow, Valid}
 use Rattle.diagram_terms.specs.Constants.{above, identity_tower, ConstantArrow, Constant}
 use Rattle.diagram_terms.specs.NormalForms.{normal_diagram}
@@ -27,7 +28,7 @@ use Rattle.diagram_terms.specs.PulledPoints.{pulled_point, IsQuiet}
 use Rattle.diagram_terms.specs.Paths.{IsDeep, IsPointOf, point_label}
 use Rattle.diagram_terms.specs.PointRegions.{LiesIn, point_region}
 use Rattle.typing_laws.specs.Alike.{SeesOneNormalForm, IsTwin, IsRoot, IsAlike}
-use Rattle.diagram_terms.specs.FullTyping.{under_identities, Failing, fault_at, verdict, fault_by, fault_in, first_fault_among, first_full_point_fault, first_full_fault, IsTypedAt, FullyTyped, IsFullyGoodSignature}
+use Rattle.diagram_terms.specs.Typing.{under_identities, Failing, fault_at, verdict, fault_by, fault_in, first_fault_among, first_point_fault, first_fault, IsTypedAt, WellTyped, IsGoodSignature}
 use Rattle.typing_laws.specs.TypedParts.{IsTypedSlice, IsTypedHeight, PassesBeside}
 use Rattle.diagram_terms.specs.DecidingPoints.{all_singular, is_deciding, deciding_points}
 use Rattle.typing_laws.specs.Deciding.{IsTurn, beyond, fault_over, first_deciding, first_sharing, first_deciding_unless_quiet}
@@ -42,12 +43,12 @@ NormalFormsOverRegularHeights d = (X : Dia (suc d)) (j : ℕ) (hs : List Height)
 
 -- over a good signature an identity diagram is judged as the diagram itself
 abbrev pub VerdictsOfIdentityDiagrams : ℕ → Type 0
-VerdictsOfIdentityDiagrams d = (generators : List Generator) (x : Label) (M : Dia d) → IsFullyGoodSignature generators
+VerdictsOfIdentityDiagrams d = (generators : List Generator) (x : Label) (M : Dia d) → IsGoodSignature generators
     → verdict generators (suc d) x (identity_diagram d M) ≡ verdict generators d x M
 
 -- so the fault at a point over a regular height is that in the slice
 abbrev pub FaultsOverRegularHeights : ℕ → Type 0
-FaultsOverRegularHeights d = (generators : List Generator) (X : Dia (suc d)) (j : ℕ) (p : Point) → IsFullyGoodSignature generators
+FaultsOverRegularHeights d = (generators : List Generator) (X : Dia (suc d)) (j : ℕ) (p : Point) → IsGoodSignature generators
     → fault_in generators (suc d) X (point_inside (height_kind.R j) p)
     ≡ option_map (fault_inside (height_kind.R j)) (fault_in generators d (reg d X j) p)
 
@@ -104,12 +105,12 @@ DecidingPointsDecide d = (V : Label → Dia d → Option Failing) (X : Dia d) �
 -- the same for the generators of a signature, good or not
 abbrev pub DecidingPointsDecideTypes : ℕ → Type 0
 DecidingPointsDecideTypes d = (generators : List Generator) (X : Dia d) → Valid d X → Plain d X
-    → first_full_point_fault generators d X ≡ first_fault_among (fault_in generators d X) (deciding_points d X)
+    → first_point_fault generators d X ≡ first_fault_among (fault_in generators d X) (deciding_points d X)
 
 -- so the first point that fails is one of these
 abbrev pub FirstFailingPointsDecide : ℕ → Type 0
 FirstFailingPointsDecide d = (generators : List Generator) (X : Dia d) (x : Failing) (hs : List Height) → Valid d X → Plain d X
-    → first_full_point_fault generators d X ≡ Some (fault_at hs x) → is_deciding hs ≡ true
+    → first_point_fault generators d X ≡ Some (fault_at hs x) → is_deciding hs ≡ true
 
 -- ---- quiet points
 
@@ -122,75 +123,75 @@ QuietPointsHaveTwins d = (X : Dia (suc d)) (k : ℕ) (hs : List Height) → Vali
 
 -- over a good signature the check that visits the points that decide answers the first fault at a point
 abbrev pub ChecksAreRight : ℕ → Type 0
-ChecksAreRight d = (generators : List Generator) (X : Dia d) → IsFullyGoodSignature generators → Valid d X → Plain d X
-    → first_deciding generators d X ≡ first_full_point_fault generators d X
+ChecksAreRight d = (generators : List Generator) (X : Dia d) → IsGoodSignature generators → Valid d X → Plain d X
+    → first_deciding generators d X ≡ first_point_fault generators d X
 
 -- so does the check in which the points of one beginning share its cut
 abbrev pub SharingChecksAreRight : ℕ → Type 0
-SharingChecksAreRight d = (generators : List Generator) (X : Dia d) → IsFullyGoodSignature generators → Valid d X → Plain d X
-    → first_sharing generators d X ≡ first_full_point_fault generators d X
+SharingChecksAreRight d = (generators : List Generator) (X : Dia d) → IsGoodSignature generators → Valid d X → Plain d X
+    → first_sharing generators d X ≡ first_point_fault generators d X
 
 -- and so does the one that leaves quiet beginnings out
 abbrev pub QuietBeginningsCanBeLeft : ℕ → Type 0
-QuietBeginningsCanBeLeft d = (generators : List Generator) (X : Dia d) → IsFullyGoodSignature generators → Valid d X → Plain d X
-    → first_deciding_unless_quiet generators d X ≡ first_full_point_fault generators d X
+QuietBeginningsCanBeLeft d = (generators : List Generator) (X : Dia d) → IsGoodSignature generators → Valid d X → Plain d X
+    → first_deciding_unless_quiet generators d X ≡ first_point_fault generators d X
 
 -- ---- well typed diagrams
 
 -- no point has a fault exactly if the type of a generator stands at each
 abbrev pub NoPointFaults : ℕ → Type 0
 NoPointFaults d = (generators : List Generator) (X : Dia d)
-    → (first_full_point_fault generators d X ≡ None) ↔ All (IsTypedAt generators d X) (points d X)
+    → (first_point_fault generators d X ≡ None) ↔ All (IsTypedAt generators d X) (points d X)
 
 -- the diagram of a tree has no fault exactly if it is well typed
 abbrev pub NoFaultMeansWellTyped : ℕ → Type 0
 NoFaultMeansWellTyped d = (generators : List Generator) (t : Tree) → IsDiagram d t
-    → (first_full_fault generators d (dia d t) ≡ None) ↔ FullyTyped generators d (dia d t)
+    → (first_fault generators d (dia d t) ≡ None) ↔ WellTyped generators d (dia d t)
 
 -- what is well typed stays so with more generators
 abbrev pub MoreGeneratorsKeepTypes : ℕ → Type 0
-MoreGeneratorsKeepTypes d = (n : ℕ) (generators : List Generator) (X : Dia d) → FullyTyped (take n generators) d X → FullyTyped generators d X
+MoreGeneratorsKeepTypes d = (n : ℕ) (generators : List Generator) (X : Dia d) → WellTyped (take n generators) d X → WellTyped generators d X
 
 -- the identity diagram of a well typed diagram is well typed
 abbrev pub IdentityDiagramsAreWellTyped : ℕ → Type 0
-IdentityDiagramsAreWellTyped d = (generators : List Generator) (X : Dia d) → FullyTyped generators d X
-    → FullyTyped generators (suc d) (identity_diagram d X)
+IdentityDiagramsAreWellTyped d = (generators : List Generator) (X : Dia d) → WellTyped generators d X
+    → WellTyped generators (suc d) (identity_diagram d X)
 
 -- over a good signature the regular slices of a well typed diagram are well typed
 abbrev pub RegularSlicesAreWellTyped : ℕ → Type 0
-RegularSlicesAreWellTyped d = (generators : List Generator) (X : Dia (suc d)) → IsFullyGoodSignature generators → FullyTyped generators (suc d) X
-    → (j : ℕ) → j ≤ length X.sings → FullyTyped generators d (reg d X j)
+RegularSlicesAreWellTyped d = (generators : List Generator) (X : Dia (suc d)) → IsGoodSignature generators → WellTyped generators (suc d) X
+    → (j : ℕ) → j ≤ length X.sings → WellTyped generators d (reg d X j)
 
 -- so its source and its target are
 abbrev pub EndsAreWellTyped : ℕ → Type 0
-EndsAreWellTyped d = (generators : List Generator) (X : Dia (suc d)) → IsFullyGoodSignature generators → FullyTyped generators (suc d) X
-    → FullyTyped generators d (source d X) × FullyTyped generators d (target d X)
+EndsAreWellTyped d = (generators : List Generator) (X : Dia (suc d)) → IsGoodSignature generators → WellTyped generators (suc d) X
+    → WellTyped generators d (source d X) × WellTyped generators d (target d X)
 
 -- the label of a generator without a boundary is well typed
 abbrev pub LabelsAreWellTyped : ℕ → Type 0
-LabelsAreWellTyped i = (generators : List Generator) → slice_get generators i ≡ Some None → FullyTyped generators 0 (label_of i None)
+LabelsAreWellTyped i = (generators : List Generator) → slice_get generators i ≡ Some None → WellTyped generators 0 (label_of i None)
 
 -- over a good signature the type of a generator is well typed
 abbrev pub TypesAreWellTyped : ℕ → Type 0
-TypesAreWellTyped d = (generators : List Generator) (i : ℕ) (s t : Tree) → IsFullyGoodSignature generators
+TypesAreWellTyped d = (generators : List Generator) (i : ℕ) (s t : Tree) → IsGoodSignature generators
     → slice_get generators i ≡ Some (Some (s, t)) → dimension_of s ≡ d
-    → FullyTyped generators (suc d) (type_over d (dia d s) (dia d t) (label_of i (Some (s, t))))
+    → WellTyped generators (suc d) (type_over d (dia d s) (dia d t) (label_of i (Some (s, t))))
 
 -- a valid plain diagram is well typed if its regular slices and its heights are those of well typed diagrams
 abbrev pub WellTypedByHeights : ℕ → Type 0
 WellTypedByHeights d = (generators : List Generator) (X : Dia (suc d)) → Valid (suc d) X → Plain (suc d) X
     → ((j : ℕ) → j ≤ length X.sings → IsTypedSlice generators d (reg d X j))
-    → ((k : ℕ) → k < length X.sings → IsTypedHeight generators d (one_height d X k)) → FullyTyped generators (suc d) X
+    → ((k : ℕ) → k < length X.sings → IsTypedHeight generators d (one_height d X k)) → WellTyped generators (suc d) X
 
 -- so the diagram of one height of a well typed diagram is well typed
 abbrev pub HeightsAreWellTyped : ℕ → Type 0
-HeightsAreWellTyped d = (generators : List Generator) (X : Dia (suc d)) (k : ℕ) → FullyTyped generators (suc d) X → k < length X.sings
-    → FullyTyped generators (suc d) (one_height d X k)
+HeightsAreWellTyped d = (generators : List Generator) (X : Dia (suc d)) (k : ℕ) → WellTyped generators (suc d) X → k < length X.sings
+    → WellTyped generators (suc d) (one_height d X k)
 
 -- the sum of well typed diagrams, of which one ends where the other begins, is well typed
 abbrev pub SumsAreWellTyped : ℕ → Type 0
-SumsAreWellTyped d = (generators : List Generator) (X Y : Dia (suc d)) → FullyTyped generators (suc d) X → FullyTyped generators (suc d) Y
-    → target d X ≡ source d Y → FullyTyped generators (suc d) (diagram_sum d X Y)
+SumsAreWellTyped d = (generators : List Generator) (X Y : Dia (suc d)) → WellTyped generators (suc d) X → WellTyped generators (suc d) Y
+    → target d X ≡ source d Y → WellTyped generators (suc d) (diagram_sum d X Y)
 
 -- ---- the points of diagrams with one normal form
 
@@ -201,25 +202,25 @@ NormalFormsHavePoints d = (X Y : Dia d) (hs : List Height) → Valid d X → Val
 
 -- so of two valid plain ones both are well typed or none is
 abbrev pub NormalFormsDecideTypes : ℕ → Type 0
-NormalFormsDecideTypes d = (generators : List Generator) (X Y : Dia d) → FullyTyped generators d X → Valid d Y → Plain d Y
-    → normal_diagram d X ≡ normal_diagram d Y → FullyTyped generators d Y
+NormalFormsDecideTypes d = (generators : List Generator) (X Y : Dia d) → WellTyped generators d X → Valid d Y → Plain d Y
+    → normal_diagram d X ≡ normal_diagram d Y → WellTyped generators d Y
 
 -- over a good signature a type stands at each point that lies in the region of a point where one stands
 abbrev pub TypedRegions : ℕ → Type 0
-TypedRegions d = (generators : List Generator) (X : Dia d) (hs gs : List Height) → IsFullyGoodSignature generators → Valid d X
+TypedRegions d = (generators : List Generator) (X : Dia d) (hs gs : List Height) → IsGoodSignature generators → Valid d X
     → IsPointOf d X hs → IsPointOf d X gs → LiesIn d (point_region d X hs) gs
     → IsTypedAt generators d X (record { heights = hs; label = point_label d X hs })
     → IsTypedAt generators d X (record { heights = gs; label = point_label d X gs })
 
 -- so a valid plain diagram is well typed if a type stands at each deep point
 abbrev pub DeepPointsDecide : ℕ → Type 0
-DeepPointsDecide d = (generators : List Generator) (X : Dia d) → IsFullyGoodSignature generators → Valid d X → Plain d X
+DeepPointsDecide d = (generators : List Generator) (X : Dia d) → IsGoodSignature generators → Valid d X → Plain d X
     → ((hs : List Height) → IsPointOf d X hs → IsDeep d X hs → IsTypedAt generators d X (record { heights = hs; label = point_label d X hs }))
-    → FullyTyped generators d X
+    → WellTyped generators d X
 
 -- and where no point over a singular height fails, none does over the regular heights beside it
 abbrev pub SingularHeightsDecide : ℕ → Type 0
-SingularHeightsDecide d = (generators : List Generator) (X : Dia (suc d)) (k : ℕ) → IsFullyGoodSignature generators
+SingularHeightsDecide d = (generators : List Generator) (X : Dia (suc d)) (k : ℕ) → IsGoodSignature generators
     → Valid (suc d) X → k < length X.sings
     → first_fault_among (fault_in generators (suc d) X) (inside (height_kind.S k) (points d (sing d X k))) ≡ None → PassesBeside generators d X k
 
@@ -227,22 +228,22 @@ SingularHeightsDecide d = (generators : List Generator) (X : Dia (suc d)) (k : �
 
 -- over a good signature the check that visits of the regular slices the first one alone answers the first fault at a point
 abbrev pub ShortChecksAreRight : ℕ → Type 0
-ShortChecksAreRight d = (generators : List Generator) (X : Dia d) → IsFullyGoodSignature generators → Valid d X → Plain d X
-    → first_short generators d X ≡ first_full_point_fault generators d X
+ShortChecksAreRight d = (generators : List Generator) (X : Dia d) → IsGoodSignature generators → Valid d X → Plain d X
+    → first_short generators d X ≡ first_point_fault generators d X
 
 -- so the first fault of a tree's diagram is its first bad place, else its first loose leg, else what the short check answers
 abbrev pub FirstFaultsAreShort : ℕ → Type 0
-FirstFaultsAreShort d = (generators : List Generator) (t : Tree) → IsFullyGoodSignature generators → IsDiagram d t
-    → first_full_fault generators d (dia d t)
+FirstFaultsAreShort d = (generators : List Generator) (t : Tree) → IsGoodSignature generators → IsDiagram d t
+    → first_fault generators d (dia d t)
     ≡ first_of (option_map (λ p. fault.SquareAt p) (first_bad_place d (dia d t)))
     (first_of (option_map (λ steps. fault.LooseAt steps) (first_loose_leg d (dia d t))) (first_short generators d (dia d t)))
 
 -- Over a well typed source a valid plain diagram is well typed exactly if at each of its heights the check of the singular
 -- points that are not quiet finds nothing.
 abbrev pub NewHeightsDecide : ℕ → Type 0
-NewHeightsDecide d = (generators : List Generator) (X : Dia (suc d)) → IsFullyGoodSignature generators → Valid (suc d) X → Plain (suc d) X
-    → FullyTyped generators d (source d X)
-    → FullyTyped generators (suc d) X
+NewHeightsDecide d = (generators : List Generator) (X : Dia (suc d)) → IsGoodSignature generators → Valid (suc d) X → Plain (suc d) X
+    → WellTyped generators d (source d X)
+    → WellTyped generators (suc d) X
     ↔ ((k : ℕ) → k < length X.sings → first_singular_unless_quiet generators d d 1 (one_height d X k) (sing d X k) ≡ None)
 
 -- ---- what may be kept
@@ -251,18 +252,18 @@ NewHeightsDecide d = (generators : List Generator) (X : Dia (suc d)) → IsFully
 abbrev pub FaultsDependOnLabels : ℕ → Type 0
 FaultsDependOnLabels d = (generators others : List Generator) (X : Dia d)
     → All (λ p. slice_get generators p.label.number ≡ slice_get others p.label.number) (points d X)
-    → first_full_point_fault generators d X ≡ first_full_point_fault others d X
+    → first_point_fault generators d X ≡ first_point_fault others d X
 
 -- a first fault that is the type of a point stays so with more generators
 abbrev pub MoreGeneratorsKeepTypeFaults : ℕ → Type 0
 MoreGeneratorsKeepTypeFaults d = (n : ℕ) (generators : List Generator) (X : Dia d) (hs : List Height)
-    → first_full_point_fault (take n generators) d X ≡ Some (fault.TypeAt hs) → first_full_point_fault generators d X ≡ Some (fault.TypeAt hs)
+    → first_point_fault (take n generators) d X ≡ Some (fault.TypeAt hs) → first_point_fault generators d X ≡ Some (fault.TypeAt hs)
 
 -- and one that is the label of a point stays so as long as the generator of its number is the same, or still missing
 abbrev pub LabelFaultsDependOnOne : ℕ → Type 0
 LabelFaultsDependOnOne d = (n : ℕ) (generators : List Generator) (X : Dia d) (hs : List Height)
     → slice_get (take n generators) (point_label d X hs).number ≡ slice_get generators (point_label d X hs).number
-    → first_full_point_fault (take n generators) d X ≡ Some (fault.LabelAt hs) → first_full_point_fault generators d X ≡ Some (fault.LabelAt hs)
+    → first_point_fault (take n generators) d X ≡ Some (fault.LabelAt hs) → first_point_fault generators d X ≡ Some (fault.LabelAt hs)
 
 -- a label passes where the neighbourhood is the type of its generator itself under identities: no normal form is needed there
 abbrev pub TypesPassAtOnce : ℕ → Type 0

@@ -4,13 +4,13 @@ use Rattle.diagram_terms.specs.declared.place.Height.TheVariants as height_kind
 use Rattle.diagram_terms.specs.Family.{Dia, reg}
 use Rattle.diagram_terms.specs.Neighbourhoods.{one_height}
 use Rattle.diagram_terms.specs.Points.{inside, points}
-use Rattle.diagram_terms.specs.Typing.{Generator}
-use Rattle.diagram_terms.specs.FullTyping.{fault_in, first_fault_among, FullyTyped}
+use Rattle.diagram_terms.specs.Generators.{Generator}
+use Rattle.diagram_terms.specs.Typing.{fault_in, first_fault_among, WellTyped}
 
 -- a slice S that is a regular slice of a well typed diagram
 pub record IsTypedSlice (generators : List Generator) (d : ℕ) (S : Dia d) : Type 0 where
   pub whole : Dia (suc d)
-  pub typed : FullyTyped generators (suc d) whole
+  pub typed : WellTyped generators (suc d) whole
   pub height : ℕ
   pub within : height ≤ length whole.sings
   pub is : reg d whole height ≡ S
@@ -18,7 +18,7 @@ pub record IsTypedSlice (generators : List Generator) (d : ℕ) (S : Dia d) : Ty
 -- a diagram C of one height that is one of a well typed diagram
 pub record IsTypedHeight (generators : List Generator) (d : ℕ) (C : Dia (suc d)) : Type 0 where
   pub whole : Dia (suc d)
-  pub typed : FullyTyped generators (suc d) whole
+  pub typed : WellTyped generators (suc d) whole
   pub height : ℕ
   pub within : height < length whole.sings
   pub is : one_height d whole height ≡ C

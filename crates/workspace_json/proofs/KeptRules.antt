@@ -9,7 +9,8 @@ use Rattle.std.proofs.lemmas.Slice.Eq.{bytes_eq-Decides}
 use Rattle.diagram_terms.specs.declared.limits.TheConstants.{GREATEST_DIM}
 use Rattle.diagram_terms.specs.Dimension.{dimension_of}
 use Rattle.diagram_terms.specs.Tree.{Tree}
-use Rattle.diagram_terms.specs.Typing.{IsWellTyped, first_of}
+use Rattle.diagram_terms.specs.FirstOf.{first_of}
+use Rattle.diagram_terms.specs.Typing.{IsWellTyped}
 use Rattle.diagram_terms.proofs.Decisions.{All-left, All-right}
 use Rattle.node_json.specs.Names.{is_good_name}
 use Rattle.workspace_json.specs.declared.refusal.Refusal.{Refusal}

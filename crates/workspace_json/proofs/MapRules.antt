@@ -19,7 +19,7 @@ use Rattle.diagram_terms.specs.Operations.{composite_tree}
 use Rattle.diagram_terms.specs.Places.{further_in}
 use Rattle.diagram_terms.specs.Shape.{IsArrow, IsDiagram}
 use Rattle.diagram_terms.specs.Tree.{Tree}
-use Rattle.diagram_terms.specs.Typing.{first_of}
+use Rattle.diagram_terms.specs.FirstOf.{first_of}
 use Rattle.diagram_terms.specs.Valid.{Valid, ValidArrow}
 use Rattle.diagram_terms.specs.ValidTrees.{IsArrowBetween, IsArrowBetweenAt, IsValidTree}
 use Rattle.diagram_terms.proofs.Completions.{same_tree_decides}

@@ -19,7 +19,9 @@ use Rattle.diagram_terms.specs.Points.{Point, points}
 use Rattle.diagram_terms.specs.Shape.{IsDiagram}
 use Rattle.diagram_terms.specs.Slices.{AreParallel}
 use Rattle.diagram_terms.specs.Tree.{Tree, point, sings}
-use Rattle.diagram_terms.specs.Typing.{Generator, IsGoodBoundary, IsGoodGenerator, IsWellTyped, first_of, generator_dim, has_dim, has_type, is_generator}
+use Rattle.diagram_terms.specs.FirstOf.{first_of}
+use Rattle.diagram_terms.specs.Generators.{Generator, generator_dim, has_dim, is_generator}
+use Rattle.diagram_terms.specs.Typing.{IsGoodBoundary, IsGoodGenerator, IsWellTyped, has_type}
 use Rattle.diagram_terms.specs.Valid.{Valid}
 use Rattle.diagram_terms.specs.ValidTrees.{IsValidTree}
 use Rattle.diagram_terms.proofs.Dimensions.{arrow_dimension, diagram_dimension}

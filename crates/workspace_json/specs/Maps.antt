@@ -14,7 +14,7 @@ use Rattle.diagram_terms.specs.Nodes.{is_within_limits}
 use Rattle.diagram_terms.specs.Operations.{composite_tree}
 use Rattle.diagram_terms.specs.Places.{further_in}
 use Rattle.diagram_terms.specs.Tree.{Tree, kind, label_at, from_at, to_at}
-use Rattle.diagram_terms.specs.Typing.{first_of}
+use Rattle.diagram_terms.specs.FirstOf.{first_of}
 use Rattle.diagram_terms.specs.ValidTrees.{IsValidTree, IsArrowBetween}
 
 -- an arrow between two diagrams

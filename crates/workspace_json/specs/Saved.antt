@@ -2,7 +2,7 @@
 use Rattle.std.specs.Prelude.{ℕ, List, length, map, count_by, Bool, not, nat_le, Option, Some, None}
 use Rattle.diagram_terms.specs.Completion.{distinct_subtrees, place_in, subtree_nodes}
 use Rattle.diagram_terms.specs.Tree.{Tree, kind}
-use Rattle.diagram_terms.specs.Typing.{Generator}
+use Rattle.diagram_terms.specs.Generators.{Generator}
 use Rattle.node_json.specs.declared.document.DiagramEntry.{DiagramEntry}
 use Rattle.node_json.specs.declared.document.Document.{Document}
 use Rattle.node_json.specs.declared.document.GeneratorEntry.{GeneratorEntry}

@@ -14,7 +14,8 @@ use Rattle.diagram_terms.specs.Family.{length_of}
 use Rattle.diagram_terms.specs.Obstacles.{Obstacle, dim_differs, not_parallel, dim_limit, count_limit, ill_typed, obstacle}
 use Rattle.diagram_terms.specs.Slices.{slice_along, source_tree, target_tree}
 use Rattle.diagram_terms.specs.Tree.{Tree}
-use Rattle.diagram_terms.specs.Typing.{Generator, first_fault_in, generator_dim}
+use Rattle.diagram_terms.specs.Generators.{Generator, generator_dim}
+use Rattle.diagram_terms.specs.Typing.{first_fault_in}
 use Rattle.node_json.specs.Names.{is_good_name}
 use Rattle.workspace_json.specs.declared.refusal.Refusal.{Refusal}
 use Rattle.workspace_json.specs.declared.refusal.Refusal.TheVariants as refusal

@@ -5,7 +5,9 @@ use Rattle.diagram_terms.specs.declared.limits.TheConstants.{GREATEST_DIM, MAX_G
 use Rattle.diagram_terms.specs.Dimension.{dimension_of}
 use Rattle.diagram_terms.specs.GeneratorTypes.{type_of_generator}
 use Rattle.diagram_terms.specs.Tree.{Tree}
-use Rattle.diagram_terms.specs.Typing.{Generator, first_of, generator_dim, IsWellTyped, IsGoodSignature}
+use Rattle.diagram_terms.specs.FirstOf.{first_of}
+use Rattle.diagram_terms.specs.Generators.{Generator, generator_dim}
+use Rattle.diagram_terms.specs.Typing.{IsWellTyped, IsGoodSignature}
 use Rattle.node_json.specs.Names.{is_good_name}
 use Rattle.workspace_json.specs.Maps.{IsMap, NamedMap, map_trees}
 

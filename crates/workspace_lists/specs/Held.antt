@@ -2,7 +2,7 @@
 use Rattle.std.specs.Prelude.{◌≡◌, ℕ, List, map}
 use Rattle.std.specs.List.{All}
 use Rattle.diagram_terms.specs.Nodes.{picked}
-use Rattle.diagram_terms.specs.Typing.{generator_dim}
+use Rattle.diagram_terms.specs.Generators.{generator_dim}
 use Rattle.hashcons.specs.Contents.{Contents, IsArrowOf, IsDiagramOf, arrow_at, diagram_at}
 use Rattle.typecheck.specs.Signatures.{IsBoundaryOf, generator_in}
 use Rattle.workspace_json.specs.Maps.{NamedMap as NamedTrees}

@@ -3,7 +3,7 @@ use Rattle.std.proofs.lemmas.List.{length-map}
 use Rattle.std.proofs.lemmas.Result.{err_from_is_err_and}
 use Rattle.diagram_terms.specs.declared.label.Label.{Label}
 use Rattle.diagram_terms.specs.GeneratorTypes.{label_of}
-use Rattle.diagram_terms.specs.Typing.{Generator, generator_dim}
+use Rattle.diagram_terms.specs.Generators.{Generator, generator_dim}
 use Rattle.typecheck.specs.declared.refusal.AddRefusal.TheVariants as add
 use Rattle.typecheck.specs.Outcomes.{add_outcome}
 use Rattle.typecheck.specs.Signatures.{generator_in, generators_of as signed}

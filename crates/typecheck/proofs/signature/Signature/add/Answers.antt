@@ -2,7 +2,7 @@ use Rattle.std.proofs.Common.{◌≤◌, ◌<◌, ◌∙◌, arith, length}
 use Rattle.std.proofs.lemmas.List.{length-map}
 use Rattle.std.proofs.lemmas.Result.{err_from_is_err_and}
 use Rattle.diagram_terms.specs.declared.limits.TheConstants.{GREATEST_DIM, MAX_GENERATORS}
-use Rattle.diagram_terms.specs.Typing.{generator_dim}
+use Rattle.diagram_terms.specs.Generators.{generator_dim}
 use Rattle.typecheck.specs.Signatures.{generator_in, generators_of}
 use Rattle.typecheck.proofs.GoodSignatures.{good-kept}
 use Rattle.typecheck.proofs.AddAnswers.{answer_full, answer_untyped, answer_label, label_seen, good_added}
