@@ -83,7 +83,7 @@ first_fault generators n X =
 
 -- the same of a tree
 abbrev pub first_point_fault_in : List Generator → Tree → Option Fault
-first_point_fault_in generators t = first_point_fault generators (dimension_of t) (points (dimension_of t) (dia (dimension_of t) t))
+first_point_fault_in generators t = first_point_fault generators (dimension_of t) (dia (dimension_of t) t)
 
 abbrev pub first_fault_in : List Generator → Tree → Option Fault
 first_fault_in generators t = first_fault generators (dimension_of t) (dia (dimension_of t) t)
