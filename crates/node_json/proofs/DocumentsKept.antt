@@ -43,7 +43,8 @@ entries_keep nodes d document are is =
       names = ms.names;
     })
 
-document_keeps : (d : Data) (document : Document) → document_of d ≡ Ok document → IsDocument document
+-- a value that is read as a document
+pub document_keeps : (d : Data) (document : Document) → document_of d ≡ Ok document → IsDocument document
 unfolding document_of
 document_keeps d document is =
     let k = gave (when (has_keys document_keys d) (field_fault field.Document)) _ document is in

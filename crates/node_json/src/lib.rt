@@ -20,4 +20,4 @@ pub use names::is_good_name;
 pub use nodes::{Nodes, nodes_in};
 pub use parts::{has_keys, keyed, list_at, text_at, value_of};
 pub use printing::{document_text, document_value, nodes_value, numbers_value};
-pub use reading::{field_fault, read_document};
+pub use reading::{document_of, field_fault, read_document};

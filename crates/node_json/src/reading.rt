@@ -54,8 +54,10 @@ fn entries_of(alloc: Global, read: Nodes, value: &Value) -> Result<Document, For
     })
 }
 
+/// The document that a value is. Else the fault is that of the first test that fails, as of bytes that
+/// are JSON.
 #[tactic(auto, unfolding(crate::specs::Reading::document_of))]
-fn document_of(alloc: Global, value: &Value) -> Result<Document, FormFault>
+pub fn document_of(alloc: Global, value: &Value) -> Result<Document, FormFault>
     ensures { Gives (λ document. document) result (document_of (view value.now)) }
 {
     keyed(

@@ -4,8 +4,6 @@ use Rattle.std.specs.Prelude.{⊤}
 use Rattle.diagram_terms.specs.declared.label.Label.{Label}
 use Rattle.diagram_terms.specs.declared.node.Node.{Node}
 use Rattle.diagram_terms.specs.declared.node.Node.TheVariants as node
-use Rattle.diagram_terms.specs.Factors.{factor_through}
-use Rattle.diagram_terms.specs.NormalForms.{normal_form}
 use Rattle.workspace_json.specs.declared.command.Command.TheVariants as command
 use Rattle.workspace_json.specs.declared.refusal.Refusal.TheVariants as refusal
 use Rattle.workspace_json.specs.declared.reply.Reply.TheVariants as reply
@@ -17,7 +15,7 @@ use Rattle.workspace_json.proofs.SampleSteps.{after_all, new_point, replies}
 
 -- what an answer unfolds beside that
 unfoldable normal_forms_on_literals : ⊤
-unfolding maps_on_literals normal_form factor_through normal_trees normalise_change
+unfolding maps_on_literals normal_trees normalise_change
 normal_forms_on_literals = tt
 
 -- ---- a leg that hits an identity cospan

@@ -8,12 +8,19 @@ use Rattle.diagram_terms.specs.Completion.{children, node_of}
 use Rattle.diagram_terms.specs.Composite.{comp, ident}
 use Rattle.diagram_terms.specs.Cone.{cone, mid, type_over}
 use Rattle.diagram_terms.specs.ConeTrees.{identity_diagram_tree, type_tree}
+use Rattle.diagram_terms.specs.Cuts.{cut_arrow, cut_diagram}
 use Rattle.diagram_terms.specs.Dimension.{dimension_of}
 use Rattle.diagram_terms.specs.Dual.{dual, after}
+use Rattle.diagram_terms.specs.Factors.{factor_through}
 use Rattle.diagram_terms.specs.Family.{no_dia, no_arr}
+use Rattle.diagram_terms.specs.NormalForms.{normal_form}
 use Rattle.diagram_terms.specs.OnTrees.{on_diagram}
+use Rattle.diagram_terms.specs.PointRegions.{point_region}
+use Rattle.diagram_terms.specs.Preimages.{preimage}
+use Rattle.diagram_terms.specs.Regions.{no_region, whole_region}
 use Rattle.diagram_terms.specs.Slices.{slice_at}
 use Rattle.diagram_terms.specs.Tree.{kind, point, zig, ends, zag, regs, sings, fwds, bwds, heights, label_at, from_at, to_at}
+use Rattle.diagram_terms.specs.Typing.{normal_type, verdict}
 use Rattle.workspace_json.specs.declared.command.Command.{Command}
 use Rattle.workspace_json.specs.declared.command.Command.TheVariants as command
 use Rattle.workspace_json.specs.declared.refusal.Refusal.TheVariants as refusal
@@ -25,7 +32,7 @@ use Rattle.workspace_json.specs.Steps.{boundary_change, drop_change, equal_answe
 
 -- what an answer unfolds to run a session that is written out
 unfoldable pub session_on_literals : ⊤
-unfolding step generator_change identity_change boundary_change drop_change slice_answer equal_answer type_tree identity_diagram_tree type_over mid cone ident dimension_of kind point zig ends zag regs sings fwds bwds heights label_at from_at to_at no_dia no_arr dual after comp children node_of slice_at on_diagram
+unfolding step generator_change identity_change boundary_change drop_change slice_answer equal_answer type_tree identity_diagram_tree type_over mid cone ident dimension_of kind point zig ends zag regs sings fwds bwds heights label_at from_at to_at no_dia no_arr dual after comp children node_of slice_at on_diagram factor_through normal_form cut_arrow cut_diagram no_region whole_region preimage point_region normal_type verdict
 session_on_literals = tt
 
 -- ---- runs

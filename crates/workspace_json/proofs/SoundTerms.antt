@@ -1,35 +1,34 @@
 -- What a reference names is a valid diagram within the limits.
 use Rattle.std.proofs.Common.{◌≡◌, ℕ, zero, suc, ◌+◌, ◌<◌, ◌≤◌, inl, inr, List, [], ◌∷◌, ◌++◌, length, get_or, take, cond, codes, All, Bool, true, false, Option, Some, None, refl, sym, ap, subst, ◌∙◌, arith}
 use Rattle.std.specs.Prelude.{bytes_eq}
-use Rattle.std.proofs.lemmas.Bool.{eqb-true, leb-true}
+use Rattle.std.proofs.lemmas.Bool.{eqb-true}
 use Rattle.std.proofs.lemmas.List.{get_or-map, length-map}
 use Rattle.std.proofs.lemmas.List.Elements.{All-contains, All-from_get_or, All-get_or, All-head, All-tail, All-take}
 use Rattle.std.proofs.lemmas.Option.{slice_get_cases}
 use Rattle.diagram_terms.specs.declared.label.Label.{Label}
 use Rattle.diagram_terms.specs.declared.limits.TheConstants.{GREATEST_DIM, MAX_GENERATORS}
-use Rattle.diagram_terms.specs.Cone.{HasLabelsBelow, Parallel, mid, source, target, type_over}
+use Rattle.diagram_terms.specs.Cone.{mid, source, type_over}
 use Rattle.diagram_terms.specs.ConeTrees.{type_tree}
 use Rattle.diagram_terms.specs.Decoded.{dia, dia_tree}
 use Rattle.diagram_terms.specs.Dimension.{dimension_of}
-use Rattle.diagram_terms.specs.Family.{Dia, reg}
+use Rattle.diagram_terms.specs.Family.{Dia}
 use Rattle.diagram_terms.specs.GeneratorTypes.{label_of, type_of_generator}
 use Rattle.diagram_terms.specs.OnTrees.{on_diagram}
-use Rattle.diagram_terms.specs.Plain.{Plain}
 use Rattle.diagram_terms.specs.Points.{Point, points}
 use Rattle.diagram_terms.specs.Shape.{IsDiagram}
-use Rattle.diagram_terms.specs.Slices.{AreParallel}
-use Rattle.diagram_terms.specs.Tree.{Tree, point, sings}
+use Rattle.diagram_terms.specs.Tree.{Tree, point}
 use Rattle.diagram_terms.specs.FirstOf.{first_of}
 use Rattle.diagram_terms.specs.Generators.{Generator, generator_dim, has_dim, is_generator}
-use Rattle.diagram_terms.specs.Typing.{IsGoodBoundary, IsGoodGenerator, IsWellTyped, has_type}
+use Rattle.diagram_terms.specs.Typing.{IsGoodBoundary, IsGoodGenerator, IsTypedAt, IsWellTyped}
 use Rattle.diagram_terms.specs.Valid.{Valid}
 use Rattle.diagram_terms.specs.ValidTrees.{IsValidTree}
 use Rattle.diagram_terms.proofs.Dimensions.{arrow_dimension, diagram_dimension}
 use Rattle.diagram_terms.proofs.FamilyShapes.{diagram_shape, valid_fits}
-use Rattle.diagram_terms.proofs.Glue.{dia-dia_tree, dia-reg, dia-sings_len}
+use Rattle.diagram_terms.proofs.Glue.{dia-dia_tree}
 use Rattle.diagram_terms.proofs.NodeTests.{is_within_limits-true}
 use Rattle.plain_laws.proofs.Cones.{types_are_good}
-use Rattle.normal_form_laws.proofs.PointLabels.{labels_are_below, points_have_the_labels}
+use Rattle.normal_form_laws.proofs.PointLabels.{points_have_the_labels}
+use Rattle.typing_laws.proofs.GoodGenerators.{good_ends}
 use Rattle.workspace_json.specs.Maps.{HasLabelsWithinLimits, IsMap, NamedMap}
 use Rattle.workspace_json.specs.Workspaces.{IsWorkspace, NamedDiagram, NamedGenerator, Workspace, diagram_named, end_named, generators_of, reference, term, type_named}
 use Rattle.workspace_json.proofs.DiagramLabels.{DiagramWithin, from_diagram}
@@ -81,18 +80,8 @@ module _ (generators : List Generator) (t : Tree) (h : IsWellTyped generators t)
   typed_within : AreLimited generators → DiagramWithin n (dia n t)
   typed_within lim x has =
       let q = (points_have_the_labels n (dia n t) x).0 has in
-      let known : is_generator generators q.1.label ≡ true =
-      All-contains (λ (p : Point). is_generator generators p.label ≡ true) (points n (dia n t)) q.1 h.typed.labels (q.0, q.2, q.3) in
-      subst Within q.4 (label_within generators q.1.label lim known)
-
-  -- its labels have dimensions up to its own
-  typed_below : (k : ℕ) → n < k → HasLabelsBelow k n (dia n t)
-  typed_below k l = (labels_are_below n (dia n t) k).1 (λ x has.
-      let q = (points_have_the_labels n (dia n t) x).0 has in
-      let typed : has_type n q.1 ≡ true = All-contains (λ (p : Point). has_type n p ≡ true) (points n (dia n t)) q.1 h.typed.types (q.0, q.2, q.3) in
-      let low = leb-true q.1.label.dim n typed in
-      let same : q.1.label.dim ≡ x.dim = ap (λ (y : Label). y.dim) q.4 in
-      omega arith)
+      let known : IsTypedAt generators n (dia n t) q.1 = All-contains (IsTypedAt generators n (dia n t)) (points n (dia n t)) q.1 h.typed.typed (q.0, q.2, q.3) in
+      subst Within q.4 (label_within generators q.1.label lim known.label)
 
   well_typed_sound : AreLimited generators → n ≤ GREATEST_DIM → IsSound t
   well_typed_sound lim l = record {
@@ -120,19 +109,6 @@ type_within d S T x w a b y (inl (suc (suc j), l, h)) = absurd (omega (arith, l)
 type_within d S T x w a b y (inr (zero, l, h)) = mid_within d S x w a y h
 type_within d S T x w a b y (inr (suc i, l, h)) = absurd (omega (arith, l))
 
-parallel_at : (d : ℕ) (s t : Tree) → IsDiagram d s → IsDiagram d t → AreParallel s t → Parallel d (dia d s) (dia d t)
-parallel_at zero s t h k p = tt
-parallel_at (suc d) s t h k p =
-    let n = diagram_dimension (suc d) s h in
-    let above : 0 < dimension_of s = omega arith in
-    let source_is : (u : Tree) → IsDiagram (suc d) u → source d (dia (suc d) u) ≡ dia d _ = λ u i. dia-reg d u i 0 (omega arith) in
-    let target_is : (u : Tree) → IsDiagram (suc d) u → target d (dia (suc d) u) ≡ dia d _ =
-    λ u i. ap (reg d (dia (suc d) u)) (dia-sings_len d u) ∙ dia-reg d u i (length (sings u)) (omega arith) in
-    record {
-      sources = source_is s h ∙ ap (dia d) (p.sources above) ∙ sym (source_is t k);
-      targets = target_is s h ∙ ap (dia d) (p.targets above) ∙ sym (target_is t k);
-    }
-
 module _ (generators : List Generator) (s t : Tree) (x : Label) (lim : AreLimited generators) (b : IsGoodBoundary generators s t) where
   abbrev dim : ℕ
   dim = dimension_of s
@@ -143,16 +119,10 @@ module _ (generators : List Generator) (s t : Tree) (x : Label) (lim : AreLimite
   abbrev T : Dia dim
   T = dia dim t
 
-  shape : IsDiagram dim t
-  shape = subst (λ n. IsDiagram n t) (sym b.parallel.dims) b.target.shape
-
   valid_type : suc dim ≡ x.dim → Valid (suc dim) (type_over dim S T x)
   valid_type e =
-      let same : dimension_of t ≡ dim = sym b.parallel.dims in
-      (types_are_good dim S T x b.source.typed.valid b.source.typed.plain (typed_below generators s b.source x.dim (omega arith))
-      (subst (λ n. Valid n (dia n t)) same b.target.typed.valid) (subst (λ n. Plain n (dia n t)) same b.target.typed.plain)
-      (subst (λ n. HasLabelsBelow x.dim n (dia n t)) same (typed_below generators t b.target x.dim (omega arith)))
-      (parallel_at dim s t b.source.shape shape b.parallel)).0
+      let ends = good_ends generators x s t (sym e) b in
+      (types_are_good dim S T x ends.source.valid ends.source.plain ends.source_labels ends.target.valid ends.target.plain ends.target_labels ends.parallel).0
 
   type_is_sound : suc dim ≡ x.dim → Within x → suc dim ≤ GREATEST_DIM → IsSound (type_tree s t x)
   unfolding type_tree on_diagram
