@@ -1,4 +1,4 @@
--- Workspaces by the rule, with a map more and without what is dropped.
+-- Workspaces by the rule, with a diagram or a map more and without what is dropped.
 use Rattle.std.proofs.Common.{◌≡◌, ℕ, suc, ◌+◌, ◌≤◌, List, [], ◌∷◌, ◌++◌, map, cond, All, Bool, true, false, not, ◌||◌, Option, Some, None, Ok, refl, sym, ap, subst, ◌∙◌, arith}
 use Rattle.std.specs.Prelude.{bytes_eq, is_some}
 use Rattle.std.specs.List.{count_by, filter}
@@ -18,7 +18,7 @@ use Rattle.workspace_json.specs.declared.refusal.Refusal.TheVariants as refusal
 use Rattle.workspace_json.specs.ChangeLaws.{AddedMapsKeepRule, DropsKeepRule}
 use Rattle.workspace_json.specs.Maps.{IsMap, NamedMap}
 use Rattle.workspace_json.specs.Steps.{◌>>=◌, new_name, refuse_unless}
-use Rattle.workspace_json.specs.Workspaces.{IsWorkspace, NamedDiagram, NamedGenerator, Workspace, diagram_named, generators_of, is_taken, map_named, names_of, type_named}
+use Rattle.workspace_json.specs.Workspaces.{IsWorkspace, NamedDiagram, NamedGenerator, Workspace, diagram_named, generators_of, is_taken, map_named, names_of, type_named, with_diagram}
 
 abbrev IsGood : List ℕ → Type 0
 IsGood name = is_good_name name ≡ true
@@ -167,6 +167,28 @@ module _ (W : Workspace) (h : IsWorkspace W) where
 pub all_good : (xs ys zs : List (List ℕ)) → All (λ name. is_good_name name ≡ true) xs → All (λ name. is_good_name name ≡ true) ys
     → All (λ name. is_good_name name ≡ true) zs → All (λ name. is_good_name name ≡ true) (xs ++ ys ++ zs)
 all_good xs ys zs a b c = All-append IsGood (xs ++ ys) zs (All-append IsGood xs ys a b) c
+
+-- ---- one diagram more
+
+pub with_diagram_rule : (W : Workspace) (name : List ℕ) (t : Tree) → IsNew W name → IsWellTyped (generators_of W) t → dimension_of t ≤ GREATEST_DIM
+    → IsWorkspace W → IsWorkspace (with_diagram W name t)
+with_diagram_rule W name t new typed low h =
+    let d : NamedDiagram = record { name = name; tree = t } in
+    let names : map (λ e. e.name) (W.diagrams ++ d ∷ []) ≡ diagram_names W ++ name ∷ [] = map_push (λ (e : NamedDiagram). e.name) W.diagrams d in
+    record {
+      good_names = subst (λ ns. All IsGood (generator_names W ++ ns ++ map_names W)) (sym names)
+          (all_good (generator_names W) (diagram_names W ++ name ∷ []) (map_names W) (good_generators W h)
+          (All-push IsGood (diagram_names W) name (good_diagrams W h) new.good) (good_maps W h));
+      once = subst (λ ns. (other : List ℕ) → count_of other (generator_names W ++ ns ++ map_names W) ≤ 1) (sym names)
+          (once_more (names_of W) (generator_names W ++ (diagram_names W ++ name ∷ []) ++ map_names W) name h.once new.unused
+          (second_more name (generator_names W) (diagram_names W) (map_names W)));
+      signature = h.signature;
+      typed = All-push (λ (e : NamedDiagram). IsWellTyped (generators_of W) e.tree) W.diagrams d h.typed typed;
+      valid = h.valid;
+      generator_dims = h.generator_dims;
+      diagram_dims = All-push (λ (e : NamedDiagram). dimension_of e.tree ≤ GREATEST_DIM) W.diagrams d h.diagram_dims low;
+      few = h.few;
+    }
 
 -- ---- one map more
 

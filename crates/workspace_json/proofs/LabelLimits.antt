@@ -77,7 +77,7 @@ pub own-zig : (rs ss fs bs : List Tree) → own_labels (zig rs ss fs bs) ≡ []
 own-zig rs ss fs bs =
     let t = zig rs ss fs bs in ap (λ k. labels_by k (label_at t) (from_at t) (to_at t)) (kind-zig rs ss fs bs)
 
-own-ends : (x y : Label) → own_labels (ends x y) ≡ x ∷ y ∷ []
+pub own-ends : (x y : Label) → own_labels (ends x y) ≡ x ∷ y ∷ []
 own-ends x y =
     let t = ends x y in
     ap (λ k. labels_by k (label_at t) (from_at t) (to_at t)) (kind-ends x y) ∙ (λ i. from_at-ends x y i ∷ to_at-ends x y i ∷ [])

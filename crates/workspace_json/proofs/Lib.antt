@@ -16,3 +16,12 @@ pub mod SoundTerms
 pub mod NormalRules
 mod SampleNormalForms
 pub mod References
+mod NameLists
+mod PrintedForms
+mod DocumentForms
+mod TestedEntries
+mod PassedEntries
+mod Opened
+mod SavedWorkspaces
+mod TakenRules
+mod OpenedRules

@@ -47,11 +47,11 @@ use Rattle.workspace_json.proofs.LabelLimits.{composites_within, nodes_within}
 
 -- ---- maps without a fault
 
-none_mapped : {A B : Type 0} (f : A → B) (o : Option A) → option_map f o ≡ None → o ≡ None
+pub none_mapped : {A B : Type 0} (f : A → B) (o : Option A) → option_map f o ≡ None → o ≡ None
 none_mapped f None e = refl
 none_mapped f (Some x) e = absurd (let z : ⊥ = cc in z)
 
-none_first : {A : Type 0} (a b : Option A) → first_of a b ≡ None → (a ≡ None) × (b ≡ None)
+pub none_first : {A : Type 0} (a b : Option A) → first_of a b ≡ None → (a ≡ None) × (b ≡ None)
 none_first None b e = (refl, e)
 none_first (Some x) b e = absurd (let z : ⊥ = cc in z)
 
@@ -99,7 +99,7 @@ source_labels m h = All-head HasLabelsWithinLimits m.source (m.target ∷ m.arro
 pub target_labels : (m : NamedMap) → IsMap m → HasLabelsWithinLimits m.target
 target_labels m h = All-head HasLabelsWithinLimits m.target (m.arrow ∷ []) (All-tail HasLabelsWithinLimits m.source (m.target ∷ m.arrow ∷ []) h.labels)
 
-arrow_labels : (m : NamedMap) → IsMap m → HasLabelsWithinLimits m.arrow
+pub arrow_labels : (m : NamedMap) → IsMap m → HasLabelsWithinLimits m.arrow
 arrow_labels m h =
     All-head HasLabelsWithinLimits m.arrow [] (All-tail HasLabelsWithinLimits m.target (m.arrow ∷ [])
     (All-tail HasLabelsWithinLimits m.source (m.target ∷ m.arrow ∷ []) h.labels))
@@ -109,7 +109,7 @@ arrow_labels m h =
 low_by : {s r : Sort} → s ≡ r → dim_of s ≤ GREATEST_DIM → dim_of r ≤ GREATEST_DIM
 low_by e l = subst (λ q. dim_of q ≤ GREATEST_DIM) e l
 
-brought_is_map : (name : List ℕ) (nodes : List Node) (source target arrow : ℕ) → IsBrought nodes source target arrow
+pub brought_is_map : (name : List ℕ) (nodes : List Node) (source target arrow : ℕ) → IsBrought nodes source target arrow
     → map_fault (map_at name nodes source target arrow) ≡ None → IsMap (map_at name nodes source target arrow)
 brought_is_map name nodes source target arrow h e =
     let m = map_at name nodes source target arrow in
@@ -181,7 +181,7 @@ pub gave : {A B : Type 0} (read : Result A Refusal) (f : A → Result B Refusal)
 gave (Ok x) f y e = record { value = x; was = refl; rest = e }
 gave (Err r) f y e = absurd (let z : ⊥ = cc in z)
 
-fault_free : (o : Option Fault) → no_fault o ≡ Ok tt → o ≡ None
+pub fault_free : (o : Option Fault) → no_fault o ≡ Ok tt → o ≡ None
 fault_free None e = refl
 fault_free (Some f) e = absurd (let z : ⊥ = cc in z)
 

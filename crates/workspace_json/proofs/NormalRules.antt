@@ -121,7 +121,7 @@ normal_is_map name t ms sound h =
 
 -- ---- the command
 
-referred_is : (r : Refusal) (o : Option Tree) (t : Tree) → or_refuse r o ≡ Ok t → o ≡ Some t
+pub referred_is : (r : Refusal) (o : Option Tree) (t : Tree) → or_refuse r o ≡ Ok t → o ≡ Some t
 referred_is r None t e = absurd (let z : ⊥ = cc in z)
 referred_is r (Some u) t e = cc
 

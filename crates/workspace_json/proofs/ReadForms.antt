@@ -2,19 +2,21 @@
 use Rattle.std.proofs.Common.{◌≡◌, ℕ, List, [], ◌∷◌, Bool, true, false, codes, cond, Some, None, Result, Ok, Err, IfOk, subst}
 use Rattle.std.specs.Prelude.{bytes_eq, is_some}
 use Rattle.serde_json.specs.Data.{Data}
-use Rattle.serde_json.specs.Find.{as_object}
+use Rattle.serde_json.specs.Find.{as_object, get}
 use Rattle.node_json.specs.declared.fault.Field.TheVariants as field
 use Rattle.node_json.specs.declared.fault.FormFault.{FormFault}
 use Rattle.node_json.specs.Json.{has_keys, list_at}
 use Rattle.node_json.specs.NodeForms.{nodes_in}
-use Rattle.node_json.specs.Reading.{field_fault}
-use Rattle.node_json.specs.Step.{Gives, when}
+use Rattle.node_json.specs.Reading.{document_of, field_fault}
+use Rattle.node_json.specs.Step.{Gives, or_fault, when}
+use Rattle.node_json.proofs.DocumentsKept.{document_keeps}
 use Rattle.node_json.proofs.EntriesKept.{arrow_place_is, diagram_place_is}
 use Rattle.node_json.proofs.NodesKept.{are_nodes}
 use Rattle.node_json.proofs.Passed.{gave}
 use Rattle.workspace_json.specs.declared.command.Command.{Command}
 use Rattle.workspace_json.specs.declared.command.Command.TheVariants as command
-use Rattle.workspace_json.specs.Commands.{arrow_in, bare_row, boundary_row, bring_row, cell_row, command_of, compose_row, diagram_in, drop_row, equal_row, generator_row, heights_at, identity_row, keyed, nodes_at, normalise_row, point_row, row_of, side_in, slice_row, text_in, texts_in}
+use Rattle.workspace_json.specs.Commands.{bare_row, boundary_row, bring_row, cell_row, check_row, command_of, compose_row, drop_row, equal_row, generator_row, identity_row, normalise_row, open_row, point_row, row_of, slice_row, take_row}
+use Rattle.workspace_json.specs.Fields.{arrow_in, diagram_in, document_in, heights_at, keyed, nodes_at, side_in, text_in, texts_in}
 use Rattle.workspace_json.specs.Forms.{HasForm}
 use Rattle.workspace_json.specs.Replies.{word_of}
 
@@ -37,6 +39,14 @@ either true p q a b c e = a c e
 either false p q a b c e = b c e
 
 -- ---- each row
+
+open_form : (d : Data) → Reads (open_row d)
+unfolding open_row
+open_form d c e =
+    let k = gave (keyed (codes "do" ∷ codes "document" ∷ []) d) _ c e in
+    let x = gave (document_in d) _ c k.then in
+    let v = gave (or_fault (field_fault field.Document) (get (word_of field.Document) d)) document_of x.value x.was in
+    made (command.OpenDocument x.value) c (document_keeps v.value x.value v.then) x.then
 
 bring_form : (d : Data) → Reads (bring_row d)
 unfolding bring_row
@@ -78,6 +88,14 @@ identity_form d c e =
     let o = gave (text_in field.Of d) _ c n.then in
     made (command.Identity n.value o.value) c tt o.then
 
+take_form : (d : Data) → Reads (take_row d)
+unfolding take_row
+take_form d c e =
+    let k = gave (keyed (codes "do" ∷ codes "name" ∷ codes "of" ∷ []) d) _ c e in
+    let n = gave (text_in field.Name d) _ c k.then in
+    let o = gave (text_in field.Of d) _ c n.then in
+    made (command.Take n.value o.value) c tt o.then
+
 boundary_form : (d : Data) → Reads (boundary_row d)
 unfolding boundary_row
 boundary_form d c e =
@@ -113,6 +131,13 @@ normalise_form d c e =
     let l = gave (texts_in field.Legs d) _ c o.then in
     made (command.Normalise n.value o.value l.value) c tt l.then
 
+check_form : (d : Data) → Reads (check_row d)
+unfolding check_row
+check_form d c e =
+    let k = gave (keyed (codes "do" ∷ codes "of" ∷ []) d) _ c e in
+    let o = gave (text_in field.Of d) _ c k.then in
+    made (command.Check o.value) c tt o.then
+
 equal_form : (d : Data) → Reads (equal_row d)
 unfolding equal_row
 equal_form d c e =
@@ -136,20 +161,23 @@ bare_form x d h c e = let k = gave (keyed (codes "do" ∷ []) d) _ c e in made x
 row_form : (word : List ℕ) (d : Data) → Reads (row_of word d)
 unfolding row_of
 row_form word d =
+    either (bytes_eq word (codes "open")) (open_row d) _ (open_form d) (
     either (bytes_eq word (codes "bring")) (bring_row d) _ (bring_form d) (
     either (bytes_eq word (codes "generator")) (generator_row d) _ (generator_form d) (
     either (bytes_eq word (codes "identity")) (identity_row d) _ (identity_form d) (
+    either (bytes_eq word (codes "take")) (take_row d) _ (take_form d) (
     either (bytes_eq word (codes "boundary")) (boundary_row d) _ (boundary_form d) (
     either (bytes_eq word (codes "slice")) (slice_row d) _ (slice_form d) (
     either (bytes_eq word (codes "compose")) (compose_row d) _ (compose_form d) (
     either (bytes_eq word (codes "normalise")) (normalise_row d) _ (normalise_form d) (
+    either (bytes_eq word (codes "check")) (check_row d) _ (check_form d) (
     either (bytes_eq word (codes "equal")) (equal_row d) _ (equal_form d) (
     either (bytes_eq word (codes "drop")) (drop_row d) _ (drop_form d) (
     either (bytes_eq word (codes "stats")) (bare_row command.Stats d) _ (bare_form command.Stats d tt) (
     either (bytes_eq word (codes "save")) (bare_row command.Save d) _ (bare_form command.Save d tt) (
     either (bytes_eq word (codes "undo")) (bare_row command.Undo d) _ (bare_form command.Undo d tt) (
     either (bytes_eq word (codes "redo")) (bare_row command.Redo d) _ (bare_form command.Redo d tt)
-    (none_read (field_fault field.Do))))))))))))))
+    (none_read (field_fault field.Do))))))))))))))))))
 
 command_form : (d : Data) → Reads (command_of d)
 unfolding command_of

@@ -2,8 +2,8 @@
 use Rattle.std.proofs.Common.{◌≡◌, ℕ, zero, suc, ◌+◌, ◌<◌, ◌≤◌, inl, inr, List, [], ◌∷◌, ◌++◌, length, get_or, take, cond, codes, All, Bool, true, false, Option, Some, None, refl, sym, ap, subst, ◌∙◌, arith}
 use Rattle.std.specs.Prelude.{bytes_eq}
 use Rattle.std.proofs.lemmas.Bool.{eqb-true}
-use Rattle.std.proofs.lemmas.List.{get_or-map, length-map}
-use Rattle.std.proofs.lemmas.List.Elements.{All-contains, All-from_get_or, All-get_or, All-head, All-tail, All-take}
+use Rattle.std.proofs.lemmas.List.{length-map}
+use Rattle.std.proofs.lemmas.List.Elements.{All-cons, All-contains, All-from_get_or, All-get_or, All-head, All-nil, All-tail, All-take, All-weaker}
 use Rattle.std.proofs.lemmas.Option.{slice_get_cases}
 use Rattle.diagram_terms.specs.declared.label.Label.{Label}
 use Rattle.diagram_terms.specs.declared.limits.TheConstants.{GREATEST_DIM, MAX_GENERATORS}
@@ -22,6 +22,7 @@ use Rattle.diagram_terms.specs.Generators.{Generator, generator_dim, has_dim, is
 use Rattle.diagram_terms.specs.Typing.{IsGoodBoundary, IsGoodGenerator, IsTypedAt, IsWellTyped}
 use Rattle.diagram_terms.specs.Valid.{Valid}
 use Rattle.diagram_terms.specs.ValidTrees.{IsValidTree}
+use Rattle.diagram_terms.proofs.Decisions.{All-unmap}
 use Rattle.diagram_terms.proofs.Dimensions.{arrow_dimension, diagram_dimension}
 use Rattle.diagram_terms.proofs.FamilyShapes.{diagram_shape, valid_fits}
 use Rattle.diagram_terms.proofs.Glue.{dia-dia_tree}
@@ -30,7 +31,7 @@ use Rattle.plain_laws.proofs.Cones.{types_are_good}
 use Rattle.normal_form_laws.proofs.PointLabels.{points_have_the_labels}
 use Rattle.typing_laws.proofs.GoodGenerators.{good_ends}
 use Rattle.workspace_json.specs.Maps.{HasLabelsWithinLimits, IsMap, NamedMap}
-use Rattle.workspace_json.specs.Workspaces.{IsWorkspace, NamedDiagram, NamedGenerator, Workspace, diagram_named, end_named, generators_of, reference, term, type_named}
+use Rattle.workspace_json.specs.Workspaces.{IsWorkspace, NamedDiagram, NamedGenerator, Workspace, boundary_trees, diagram_named, end_named, generators_of, reference, term, type_named}
 use Rattle.workspace_json.proofs.DiagramLabels.{DiagramWithin, from_diagram}
 use Rattle.workspace_json.proofs.LabelLimits.{Within}
 use Rattle.workspace_json.proofs.MapRules.{source_labels, target_labels}
@@ -138,18 +139,34 @@ generator_type_sound before n None lim few good l =
 generator_type_sound before n (Some (s, t)) lim few good l =
     type_is_sound before s t (label_of n (Some (s, t))) lim good refl (is_within_limits-true (label_of n (Some (s, t))) (record { number = few; dim = l })) l
 
+-- a generator that is good over some generators within the limits
+record IsFine (g : Generator) : Type 0 where
+  before : List Generator
+  limited : AreLimited before
+  good : IsGoodGenerator before g
+  low : generator_dim g ≤ GREATEST_DIM
+
+-- the ends of its boundary
+fine_boundary : (g : Generator) → IsFine g → All IsSound (boundary_trees g)
+fine_boundary None h = All-nil IsSound
+fine_boundary (Some (s, t)) h =
+    let low = h.low in
+    let dims = h.good.parallel.dims in
+    All-cons IsSound s (t ∷ []) (well_typed_sound h.before s h.good.source h.limited (omega arith))
+    (All-cons IsSound t [] (well_typed_sound h.before t h.good.target h.limited (omega arith)) (All-nil IsSound))
+
 -- ---- what names name
 
 abbrev HasSoundType : NamedGenerator → Type 0
 HasSoundType g = (n : ℕ) → n < MAX_GENERATORS → IsSound (type_of_generator n g.generator)
 
+fine_type : (g : NamedGenerator) → IsFine g.generator → HasSoundType g
+fine_type g h n few = generator_type_sound h.before n g.generator h.limited few h.good h.low
+
 shorter : {X : Type 0} (i : ℕ) (xs : List X) → length (take i xs) ≤ length xs
 shorter zero xs = omega arith
 shorter (suc i) [] = omega arith
 shorter (suc i) (x ∷ xs) = let r = shorter i xs in omega arith
-
-no_named : NamedGenerator
-no_named = record { name = []; generator = None }
 
 module _ (W : Workspace) (h : IsWorkspace W) where
   limited : AreLimited (generators_of W)
@@ -161,18 +178,26 @@ module _ (W : Workspace) (h : IsWorkspace W) where
     dims = All-take (λ (g : Generator). generator_dim g ≤ GREATEST_DIM) i (generators_of W) h.generator_dims;
   }
 
-  sound_types : All HasSoundType W.generators
-  unfolding no_named
-  sound_types =
-      All-from_get_or HasSoundType W.generators no_named (λ i l n few.
-      let m : i < length (generators_of W) = rw length-map l in
-      let e : get_or (generators_of W) i None ≡ (get_or W.generators i no_named).generator = get_or-map (λ (g : NamedGenerator). g.generator) W.generators i no_named None l in
-      let good : IsGoodGenerator (take i (generators_of W)) (get_or W.generators i no_named).generator = subst (IsGoodGenerator (take i (generators_of W))) e (h.signature.good i m) in
-      let low : generator_dim (get_or W.generators i no_named).generator ≤ GREATEST_DIM =
-      subst (λ (g : Generator). generator_dim g ≤ GREATEST_DIM) e (All-get_or (λ (g : Generator). generator_dim g ≤ GREATEST_DIM) (generators_of W) i None m h.generator_dims) in
-      generator_type_sound (take i (generators_of W)) n (get_or W.generators i no_named).generator (limited_before i) few good low)
+  all_fine : All (λ (g : NamedGenerator). IsFine g.generator) W.generators
+  all_fine =
+      let gs : List Generator = generators_of W in
+      All-unmap IsFine (λ (g : NamedGenerator). g.generator) W.generators
+      (All-from_get_or IsFine gs None (λ i l. record {
+        before = take i gs;
+        limited = limited_before i;
+        good = h.signature.good i l;
+        low = All-get_or (λ (g : Generator). generator_dim g ≤ GREATEST_DIM) gs i None l h.generator_dims;
+      }))
 
-  sound_diagrams : All (λ (d : NamedDiagram). IsSound d.tree) W.diagrams
+  sound_types : All HasSoundType W.generators
+  sound_types = All-weaker (λ (g : NamedGenerator). IsFine g.generator) HasSoundType fine_type W.generators all_fine
+
+  pub sound_boundaries : All (λ (g : NamedGenerator). All IsSound (boundary_trees g.generator)) W.generators
+  sound_boundaries =
+      All-weaker (λ (g : NamedGenerator). IsFine g.generator) (λ (g : NamedGenerator). All IsSound (boundary_trees g.generator))
+      (λ g f. fine_boundary g.generator f) W.generators all_fine
+
+  pub sound_diagrams : All (λ (d : NamedDiagram). IsSound d.tree) W.diagrams
   sound_diagrams =
       let none : NamedDiagram = record { name = []; tree = point (label_of 0 None) } in
       All-from_get_or (λ (d : NamedDiagram). IsSound d.tree) W.diagrams none (λ i l.
@@ -196,14 +221,14 @@ diagram_sound (d ∷ ds) name t h e =
     by_name (bytes_eq d.name name) d.tree (diagram_named ds name) t e (All-head (λ (x : NamedDiagram). IsSound x.tree) d ds h)
     (diagram_sound ds name t (All-tail (λ (x : NamedDiagram). IsSound x.tree) d ds h))
 
-source_sound : (m : NamedMap) → IsMap m → IsSound m.source
+pub source_sound : (m : NamedMap) → IsMap m → IsSound m.source
 source_sound m h = record {
   valid = h.source;
   low = let d = h.dim in let a = arrow_dimension h.arrow.dim m.arrow h.arrow.at_dim.shape in let s = diagram_dimension h.arrow.dim m.source h.arrow.at_dim.source in omega arith;
   labels = source_labels m h;
 }
 
-target_sound : (m : NamedMap) → IsMap m → IsSound m.target
+pub target_sound : (m : NamedMap) → IsMap m → IsSound m.target
 target_sound m h = record {
   valid = h.target;
   low = let d = h.dim in let a = arrow_dimension h.arrow.dim m.arrow h.arrow.at_dim.shape in let t = diagram_dimension h.arrow.dim m.target h.arrow.at_dim.target in omega arith;

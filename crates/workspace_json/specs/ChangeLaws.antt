@@ -1,12 +1,25 @@
--- The laws of changes with maps: what is added or taken away leaves a workspace that meets the rule.
+-- The laws of changes: what is opened, taken, added as a map or dropped leaves a workspace that meets the rule.
 use Rattle.std.specs.Prelude.{◌≡◌, ℕ, List, Ok}
 use Rattle.diagram_terms.specs.declared.node.Node.{Node}
+use Rattle.node_json.specs.declared.document.Document.{Document}
+use Rattle.node_json.specs.Documents.{IsDocument}
 use Rattle.workspace_json.specs.Forms.{IsBrought}
 use Rattle.workspace_json.specs.Maps.{IsMap, NamedMap}
 use Rattle.workspace_json.specs.MapSteps.{bring_change, compose_change}
 use Rattle.workspace_json.specs.NormalSteps.{normalise_change}
-use Rattle.workspace_json.specs.Steps.{Changed, new_name}
+use Rattle.workspace_json.specs.Openings.{open_change}
+use Rattle.workspace_json.specs.Steps.{Changed, new_name, take_change}
 use Rattle.workspace_json.specs.Workspaces.{IsWorkspace, Workspace, with_map, without}
+
+-- a document that is opened
+abbrev pub OpeningsKeepRule : Type 0
+OpeningsKeepRule = (W : Workspace) (document : Document) (c : Changed)
+    → IsDocument document → open_change W document ≡ Ok c → IsWorkspace c.workspace
+
+-- a diagram that is taken
+abbrev pub TakenDiagramsKeepRule : Type 0
+TakenDiagramsKeepRule = (W : Workspace) (name of : List ℕ) (c : Changed)
+    → IsWorkspace W → take_change W name of ≡ Ok c → IsWorkspace c.workspace
 
 -- a map by the rule, under a new name
 abbrev pub AddedMapsKeepRule : Type 0

@@ -1,76 +1,25 @@
 -- Which command a line is, or which form fault it has: the first failure in the order decides.
-use Rattle.std.specs.Prelude.{ℕ, List, [], ◌∷◌, codes, bytes_eq, if◌then◌else◌, Option, Some, None, is_some, option_and_then, Result, Ok, Err, ⊤}
+use Rattle.std.specs.Prelude.{ℕ, List, [], ◌∷◌, codes, bytes_eq, if◌then◌else◌, Some, None, is_some, Result, Ok, Err}
 use Rattle.serde_json.specs.Data.{Data}
-use Rattle.serde_json.specs.Find.{as_str, as_object}
-use Rattle.diagram_terms.specs.declared.node.Node.{Node}
-use Rattle.diagram_terms.specs.declared.place.Height.{Height}
-use Rattle.diagram_terms.specs.declared.place.Side.{Side}
-use Rattle.diagram_terms.specs.declared.place.Side.TheVariants as side
-use Rattle.node_json.specs.declared.fault.Field.{Field}
+use Rattle.serde_json.specs.Find.{as_object}
 use Rattle.node_json.specs.declared.fault.Field.TheVariants as field
 use Rattle.node_json.specs.declared.fault.FormFault.{FormFault}
 use Rattle.node_json.specs.declared.fault.FormFault.TheVariants as fault
-use Rattle.diagram_terms.specs.Nodes.{sorts_of}
-use Rattle.node_json.specs.Entries.{arrow_place, diagram_place}
-use Rattle.node_json.specs.NodeForms.{nodes_in}
-use Rattle.node_json.specs.Step.{◌>>=◌, when, or_fault, each}
-use Rattle.node_json.specs.Json.{json_of, has_keys, text_at, list_at}
+use Rattle.node_json.specs.Step.{◌>>=◌, when, or_fault}
+use Rattle.node_json.specs.Json.{json_of, has_keys}
 use Rattle.node_json.specs.Reading.{field_fault}
 use Rattle.workspace_json.specs.declared.command.Command.{Command}
 use Rattle.workspace_json.specs.declared.command.Command.TheVariants as command
-use Rattle.workspace_json.specs.Paths.{height_in}
-use Rattle.workspace_json.specs.Replies.{word_of}
-
--- ---- fields
-
--- an object with exactly these keys
-abbrev pub keyed : List (List ℕ) → Data → Result ⊤ FormFault
-keyed keys d = when (has_keys keys d) (field_fault field.Command)
-
--- the string of a field, at the key that is the field's word
-abbrev pub text_in : Field → Data → Result (List ℕ) FormFault
-text_in f d = text_at (field_fault f) (word_of f) d
-
--- `source` or `target`
-abbrev pub side_of : List ℕ → Option Side
-side_of word =
-    if bytes_eq word (codes "source") then Some side.Source else (
-    if bytes_eq word (codes "target") then Some side.Target else None)
-
--- the side of a boundary
-abbrev pub side_in : Data → Result Side FormFault
-side_in d = do
-  word ← text_in field.Side d
-  or_fault (field_fault field.Side) (side_of word)
-
--- the heights that values are, if each is a string that is the text of one
-abbrev pub heights_of : List Data → Result (List Height) FormFault
-heights_of ds = each (λ done d. or_fault (field_fault field.Path) (option_and_then height_in (as_str d))) [] ds
-
--- the path of a slice
-abbrev pub heights_at : Data → Result (List Height) FormFault
-heights_at d = list_at (field_fault field.Path) (word_of field.Path) d >>= heights_of
-
--- the texts that values are, if each is a string
-abbrev pub texts_of : Field → List Data → Result (List (List ℕ)) FormFault
-texts_of f ds = each (λ done d. or_fault (field_fault f) (as_str d)) [] ds
-
--- the list of strings of a field
-abbrev pub texts_in : Field → Data → Result (List (List ℕ)) FormFault
-texts_in f d = list_at (field_fault f) (word_of f) d >>= texts_of f
-
--- the nodes of a map, each with its own fault
-abbrev pub nodes_at : Data → Result (List Node) FormFault
-nodes_at d = list_at (field_fault field.Nodes) (word_of field.Nodes) d >>= nodes_in
-
--- the place of a field, where a diagram, or an arrow, of these nodes stands
-abbrev pub diagram_in : Field → List Node → Data → Result ℕ FormFault
-diagram_in f nodes d = diagram_place (field_fault f) (sorts_of nodes) (word_of f) d
-
-abbrev pub arrow_in : Field → List Node → Data → Result ℕ FormFault
-arrow_in f nodes d = arrow_place (field_fault f) (sorts_of nodes) (word_of f) d
+use Rattle.workspace_json.specs.Fields.{arrow_in, diagram_in, document_in, heights_at, keyed, nodes_at, side_in, text_in, texts_in}
 
 -- ---- one command for each word
+
+-- `{"do":"open","document":{..}}`
+unfoldable pub open_row : Data → Result Command FormFault
+open_row d = do
+  exact ← keyed (codes "do" ∷ codes "document" ∷ []) d
+  document ← document_in d
+  Ok (command.OpenDocument document)
 
 -- `{"do":"bring","name":s,"nodes":[..],"source":i,"target":j,"arrow":k}`
 unfoldable pub bring_row : Data → Result Command FormFault
@@ -110,6 +59,14 @@ identity_row d = do
   of ← text_in field.Of d
   Ok (command.Identity name of)
 
+-- `{"do":"take","name":s,"of":s}`
+unfoldable pub take_row : Data → Result Command FormFault
+take_row d = do
+  exact ← keyed (codes "do" ∷ codes "name" ∷ codes "of" ∷ []) d
+  name ← text_in field.Name d
+  of ← text_in field.Of d
+  Ok (command.Take name of)
+
 -- `{"do":"boundary","name":s,"of":s,"side":"source"}`, or with `"target"`
 unfoldable pub boundary_row : Data → Result Command FormFault
 boundary_row d = do
@@ -145,6 +102,13 @@ normalise_row d = do
   legs ← texts_in field.Legs d
   Ok (command.Normalise name of legs)
 
+-- `{"do":"check","of":s}`
+unfoldable pub check_row : Data → Result Command FormFault
+check_row d = do
+  exact ← keyed (codes "do" ∷ codes "of" ∷ []) d
+  of ← text_in field.Of d
+  Ok (command.Check of)
+
 -- `{"do":"equal","one":s,"two":s}`
 unfoldable pub equal_row : Data → Result Command FormFault
 equal_row d = do
@@ -171,20 +135,23 @@ bare_row c d = do
 -- the command that an object with this word is
 unfoldable pub row_of : List ℕ → Data → Result Command FormFault
 row_of word d =
+    if bytes_eq word (codes "open") then open_row d else (
     if bytes_eq word (codes "bring") then bring_row d else (
     if bytes_eq word (codes "generator") then generator_row d else (
     if bytes_eq word (codes "identity") then identity_row d else (
+    if bytes_eq word (codes "take") then take_row d else (
     if bytes_eq word (codes "boundary") then boundary_row d else (
     if bytes_eq word (codes "slice") then slice_row d else (
     if bytes_eq word (codes "compose") then compose_row d else (
     if bytes_eq word (codes "normalise") then normalise_row d else (
+    if bytes_eq word (codes "check") then check_row d else (
     if bytes_eq word (codes "equal") then equal_row d else (
     if bytes_eq word (codes "drop") then drop_row d else (
     if bytes_eq word (codes "stats") then bare_row command.Stats d else (
     if bytes_eq word (codes "save") then bare_row command.Save d else (
     if bytes_eq word (codes "undo") then bare_row command.Undo d else (
     if bytes_eq word (codes "redo") then bare_row command.Redo d else
-    Err (field_fault field.Do)))))))))))))
+    Err (field_fault field.Do))))))))))))))))
 
 -- the command that a value is: an object, then its word, then the keys and the fields of the word
 unfoldable pub command_of : Data → Result Command FormFault

@@ -2,6 +2,7 @@ pub mod Places
 pub mod Paths
 pub mod Replies
 pub mod Forms
+pub mod Fields
 pub mod Commands
 pub mod Maps
 pub mod Workspaces
@@ -9,5 +10,7 @@ pub mod Saved
 pub mod Steps
 pub mod MapSteps
 pub mod NormalSteps
+pub mod Openings
 pub mod Sessions
 pub mod ChangeLaws
+pub mod DocumentLaws

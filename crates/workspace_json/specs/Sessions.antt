@@ -9,7 +9,8 @@ use Rattle.workspace_json.specs.declared.reply.Reply.{Reply}
 use Rattle.workspace_json.specs.declared.reply.Reply.TheVariants as reply
 use Rattle.workspace_json.specs.MapSteps.{bring_change, compose_change}
 use Rattle.workspace_json.specs.NormalSteps.{normalise_change}
-use Rattle.workspace_json.specs.Steps.{Changed, boundary_change, drop_change, equal_answer, generator_change, identity_change, reply_of, save_answer, slice_answer, stats_answer}
+use Rattle.workspace_json.specs.Openings.{open_change}
+use Rattle.workspace_json.specs.Steps.{Changed, boundary_change, check_answer, drop_change, equal_answer, generator_change, identity_change, reply_of, save_answer, slice_answer, stats_answer, take_change}
 use Rattle.workspace_json.specs.Workspaces.{IsWorkspace, Workspace, empty_workspace}
 
 -- The past has the workspaces before each accepted change that is not undone, the latest first. The future has those that
@@ -62,14 +63,17 @@ go s done none None = record { reply = reply.Refused none; session = s }
 
 -- what a command does, one case for each
 unfoldable pub step : Session → Command → Stepped
+step s (command.OpenDocument document) = change s (open_change s.present document)
 step s (command.Bring name nodes source target arrow) = change s (bring_change s.present name nodes source target arrow)
 step s (command.Generator name source target) = change s (generator_change s.present name source target)
 step s (command.Identity name of) = change s (identity_change s.present name of)
+step s (command.Take name of) = change s (take_change s.present name of)
 step s (command.Boundary name of end) = change s (boundary_change s.present name of end)
 step s (command.Compose name first second) = change s (compose_change s.present name first second)
 step s (command.Normalise name of legs) = change s (normalise_change s.present name of legs)
 step s (command.Drop name) = change s (drop_change s.present name)
 step s (command.Slice of path) = read s (slice_answer s.present of path)
+step s (command.Check of) = read s (check_answer s.present of)
 step s (command.Equal one two) = read s (equal_answer s.present one two)
 step s command.Stats = read s (stats_answer s.present)
 step s command.Save = read s (save_answer s.present)

@@ -134,6 +134,13 @@ boundary_change W name of end = do
   above ← refuse_unless (nat_lt 0 (dimension_of t)) (refusal.NoHeight 0)
   stored W word.Boundary name (end_of end t)
 
+-- `take`: the tree of a reference is stored
+unfoldable pub take_change : Workspace → List ℕ → List ℕ → Result Changed Refusal
+take_change W name of = do
+  new ← new_name W name
+  t ← referred W of
+  stored W word.Take name t
+
 -- `drop`: the stored diagram or the map of the name is taken away; a generator is never
 unfoldable pub drop_change : Workspace → List ℕ → Result Changed Refusal
 drop_change W name = do
@@ -159,6 +166,12 @@ slice_found (Err step) = Err (refusal.NoHeight step)
 -- `slice`: the slice of a reference along a path
 unfoldable pub slice_answer : Workspace → List ℕ → List Height → Result Reply Refusal
 slice_answer W of path = referred W of >>= λ t. slice_found (slice_along t path)
+
+-- `check`: the first fault of a reference over the generators
+unfoldable pub check_answer : Workspace → List ℕ → Result Reply Refusal
+check_answer W of = do
+  t ← referred W of
+  Ok (reply.Check (first_fault_in (generators_of W) t))
 
 -- `equal`: whether two references are one tree
 unfoldable pub equal_answer : Workspace → List ℕ → List ℕ → Result Reply Refusal

@@ -1,8 +1,13 @@
 use diagram_terms::{Height, Items, Node, Side, Text};
+use node_json::Document;
 
 /// One line of input to a session.
 #[derive(Debug, Drop)]
 pub enum Command {
+    /// The generators, diagrams and maps of a document.
+    OpenDocument {
+        document: Document,
+    },
     /// A new map: an arrow and its ends, which stand at places of these nodes.
     Bring {
         name: Text,
@@ -19,6 +24,11 @@ pub enum Command {
     },
     /// The identity of a diagram, under a name.
     Identity {
+        name: Text,
+        of: Text,
+    },
+    /// A diagram or an end of a map, under a name.
+    Take {
         name: Text,
         of: Text,
     },
@@ -44,6 +54,10 @@ pub enum Command {
         name: Text,
         of: Text,
         legs: Items<Text>,
+    },
+    /// Whether a diagram is well typed.
+    Check {
+        of: Text,
     },
     /// Whether two diagrams are the same.
     Equal {

@@ -1,136 +1,26 @@
-ghost use Rattle.std.specs.Prelude.{◌≡◌, map, List, IfOk};
+ghost use Rattle.std.specs.Prelude.{◌≡◌, IfOk};
 ghost use Rattle.serde_json.specs.View.{view};
-ghost use Rattle.diagram_terms.specs.declared.node.Node.{Node};
-ghost use Rattle.diagram_terms.specs.Nodes.{sorts_of};
 ghost use Rattle.node_json.specs.Step.{Gives, GivesExactly};
-ghost use Rattle.workspace_json.specs.Commands.{text_in, keyed, side_of, side_in, heights_of, heights_at, texts_of, texts_in, nodes_at, diagram_in, arrow_in, bring_row, point_row, cell_row, generator_row, identity_row, boundary_row, slice_row, compose_row, normalise_row, equal_row, drop_row, bare_row, row_of, command_of, exact_command};
+ghost use Rattle.workspace_json.specs.Commands.{open_row, bring_row, point_row, cell_row, generator_row, identity_row, take_row, boundary_row, slice_row, compose_row, normalise_row, check_row, equal_row, drop_row, bare_row, row_of, command_of, exact_command};
 ghost use Rattle.workspace_json.specs.Forms.{HasForm};
 
 use crate::command::Command;
-use crate::paths::height_of;
-use crate::writing::field_word;
-use diagram_terms::{Height, Items, Side, Sort, Text};
-use node_json::{
-    Field, FormFault, Nodes, arrow_place, diagram_place, field_fault, has_keys, list_at, nodes_in,
-    text_at, value_of,
+use crate::fields::{
+    arrow_in, diagram_in, document_in, heights_at, keyed, nodes_at, side_in, str_in, text_in,
+    texts_in,
 };
+use node_json::{Field, FormFault, field_fault, has_keys, value_of};
 use serde_json::Value;
 use std::alloc::Global;
 
-/// Asks for exactly these keys.
-fn keyed(value: &Value, keys: &[&str]) -> Result<(), FormFault>
-    ensures { GivesExactly (λ _. tt) result (keyed (map (λ key. key.now) keys.now) (view value.now)) }
+#[tactic(auto, unfolding(crate::specs::Commands::open_row))]
+fn open_row(alloc: Global, value: &Value) -> Result<Command, FormFault>
+    ensures { Gives (λ command. command) result (open_row (view value.now)) }
 {
-    node_json::keyed(field_fault(Field::Command), value, keys)
-}
-
-/// The string of a field, at the key that is the field's word.
-fn str_in<'v>(field: Field, value: &'v Value) -> Result<&'v str, FormFault>
-    ensures { GivesExactly (λ text. text.now) result (text_in field (view value.now)) }
-{
-    text_at(field_fault(field), value, field_word(field))
-}
-
-fn text_in(alloc: Global, field: Field, value: &Value) -> Result<Text, FormFault>
-    ensures { Gives (λ text. text) result (text_in field (view value.now)) }
-{
-    Ok(Text::from_str(alloc, str_in(field, value)?)?)
-}
-
-fn side_of(word: &str) -> Option<Side>
-    ensures { result ≡ side_of word.now }
-{
-    match word {
-        "source" => Some(Side::Source),
-        "target" => Some(Side::Target),
-        _ => None,
-    }
-}
-
-fn side_in(value: &Value) -> Result<Side, FormFault>
-    ensures { GivesExactly (λ side. side) result (side_in (view value.now)) }
-{
-    match side_of(str_in(Field::Side, value)?) {
-        Some(side) => Ok(side),
-        None => Err(field_fault(Field::Side)),
-    }
-}
-
-fn heights_of(alloc: Global, list: &[Value]) -> Result<Items<Height>, FormFault>
-    ensures { Gives (λ path. path) result (heights_of (map view list.now)) }
-{
-    let mut path = Items::new(alloc);
-    for step in list {
-        let Some(height) = step.as_str().and_then(height_of) else {
-            return Err(field_fault(Field::Path));
-        };
-        path.push(height)?;
-    }
-    Ok(path)
-}
-
-fn heights_at(alloc: Global, value: &Value) -> Result<Items<Height>, FormFault>
-    ensures { Gives (λ path. path) result (heights_at (view value.now)) }
-{
-    let list = list_at(field_fault(Field::Path), value, field_word(Field::Path))?;
-    heights_of(alloc, list)
-}
-
-fn texts_of(alloc: Global, field: Field, list: &[Value]) -> Result<Items<Text>, FormFault>
-    ensures { Gives (λ texts. texts) result (texts_of field (map view list.now)) }
-{
-    let mut texts = Items::new(alloc);
-    for value in list {
-        let Some(text) = value.as_str() else {
-            return Err(field_fault(field));
-        };
-        texts.push(Text::from_str(alloc, text)?)?;
-    }
-    Ok(texts)
-}
-
-/// The strings of a list at a field.
-fn texts_in(alloc: Global, field: Field, value: &Value) -> Result<Items<Text>, FormFault>
-    ensures { Gives (λ texts. texts) result (texts_in field (view value.now)) }
-{
-    let list = list_at(field_fault(field), value, field_word(field))?;
-    texts_of(alloc, field, list)
-}
-
-fn nodes_at(alloc: Global, value: &Value) -> Result<Nodes, FormFault>
-    ensures nodes { Gives (λ read. read.nodes) result (nodes_at (view value.now)) }
-    ensures sorts { IfOk result (λ read. read.sorts ≡ sorts_of read.nodes) }
-{
-    let list = list_at(field_fault(Field::Nodes), value, field_word(Field::Nodes))?;
-    nodes_in(alloc, list)
-}
-
-/// The place at a field, where a diagram of these nodes stands.
-fn diagram_in(field: Field, nodes: &Nodes, value: &Value) -> Result<usize, FormFault>
-    requires { nodes.now.sorts ≡ sorts_of nodes.now.nodes }
-    ensures { GivesExactly (λ place. place) result
-        (diagram_in field nodes.now.nodes (view value.now)) }
-{
-    diagram_place(
-        field_fault(field),
-        nodes.sorts.as_slice(),
-        field_word(field),
-        value,
-    )
-}
-
-/// The place at a field, where an arrow of these nodes stands.
-fn arrow_in(field: Field, nodes: &Nodes, value: &Value) -> Result<usize, FormFault>
-    requires { nodes.now.sorts ≡ sorts_of nodes.now.nodes }
-    ensures { GivesExactly (λ place. place) result
-        (arrow_in field nodes.now.nodes (view value.now)) }
-{
-    arrow_place(
-        field_fault(field),
-        nodes.sorts.as_slice(),
-        field_word(field),
-        value,
-    )
+    keyed(value, &["do", "document"])?;
+    Ok(Command::OpenDocument {
+        document: document_in(alloc, value)?,
+    })
 }
 
 #[tactic(auto, unfolding(crate::specs::Commands::bring_row))]
@@ -195,6 +85,17 @@ fn identity_row(alloc: Global, value: &Value) -> Result<Command, FormFault>
     })
 }
 
+#[tactic(auto, unfolding(crate::specs::Commands::take_row))]
+fn take_row(alloc: Global, value: &Value) -> Result<Command, FormFault>
+    ensures { Gives (λ command. command) result (take_row (view value.now)) }
+{
+    keyed(value, &["do", "name", "of"])?;
+    Ok(Command::Take {
+        name: text_in(alloc, Field::Name, value)?,
+        of: text_in(alloc, Field::Of, value)?,
+    })
+}
+
 #[tactic(auto, unfolding(crate::specs::Commands::boundary_row))]
 fn boundary_row(alloc: Global, value: &Value) -> Result<Command, FormFault>
     ensures { Gives (λ command. command) result (boundary_row (view value.now)) }
@@ -242,6 +143,16 @@ fn normalise_row(alloc: Global, value: &Value) -> Result<Command, FormFault>
     })
 }
 
+#[tactic(auto, unfolding(crate::specs::Commands::check_row))]
+fn check_row(alloc: Global, value: &Value) -> Result<Command, FormFault>
+    ensures { Gives (λ command. command) result (check_row (view value.now)) }
+{
+    keyed(value, &["do", "of"])?;
+    Ok(Command::Check {
+        of: text_in(alloc, Field::Of, value)?,
+    })
+}
+
 #[tactic(auto, unfolding(crate::specs::Commands::equal_row))]
 fn equal_row(alloc: Global, value: &Value) -> Result<Command, FormFault>
     ensures { Gives (λ command. command) result (equal_row (view value.now)) }
@@ -276,13 +187,16 @@ fn row_of(alloc: Global, word: &str, value: &Value) -> Result<Command, FormFault
     ensures { Gives (λ command. command) result (row_of word.now (view value.now)) }
 {
     match word {
+        "open" => open_row(alloc, value),
         "bring" => bring_row(alloc, value),
         "generator" => generator_row(alloc, value),
         "identity" => identity_row(alloc, value),
+        "take" => take_row(alloc, value),
         "boundary" => boundary_row(alloc, value),
         "slice" => slice_row(alloc, value),
         "compose" => compose_row(alloc, value),
         "normalise" => normalise_row(alloc, value),
+        "check" => check_row(alloc, value),
         "equal" => equal_row(alloc, value),
         "drop" => drop_row(alloc, value),
         "stats" => bare_row(Command::Stats, value),
@@ -306,7 +220,7 @@ fn command_of(alloc: Global, value: &Value) -> Result<Command, FormFault>
 /// The command that a line is, which stands here without its newline. Else the fault is that of the
 /// first test that fails: that it is JSON, an object, has one of the words at `do`, has exactly the keys
 /// of that word, and then its fields in order. `NoMemory` may come in place of any answer. What is read
-/// has the form of its command: the nodes of a map, and places of the right kind among them.
+/// has the form of its command: a document, or the nodes of a map and places of the right kind among them.
 pub fn read_command(alloc: Global, line: &[u8]) -> Result<Command, FormFault>
     ensures exact { Gives (λ command. command) result (exact_command line.now) }
     ensures form { IfOk result HasForm }

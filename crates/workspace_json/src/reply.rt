@@ -1,5 +1,5 @@
 use crate::refusal::Refusal;
-use diagram_terms::{Items, Node, Place, Text};
+use diagram_terms::{Fault, Items, Node, Place, Text};
 use node_json::Document;
 
 /// The word of a command whose reply has the form of others.
@@ -7,6 +7,7 @@ use node_json::Document;
 pub enum Word {
     Identity,
     Boundary,
+    Take,
     Bring,
     Compose,
     Drop,
@@ -21,6 +22,12 @@ pub enum Reply {
         length: usize,
         name: Text,
         at: Option<Place>,
+    },
+    /// How many diagrams, generators and maps of a document were taken.
+    OpenDocument {
+        diagrams: usize,
+        generators: usize,
+        maps: usize,
     },
     /// A generator that was added, with its dimension and its number, counted from 0.
     Generator {
@@ -54,6 +61,15 @@ pub enum Reply {
         name: Text,
         nodes: Items<Node>,
         source: usize,
+    },
+    /// The first fault of a diagram, if it has one.
+    Check {
+        fault: Option<Fault>,
+    },
+    /// A diagram of a document, with its first fault, if it has one.
+    CheckNamed {
+        name: Text,
+        fault: Option<Fault>,
     },
     /// Whether two diagrams are the same.
     Equal {

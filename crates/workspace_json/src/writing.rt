@@ -1,12 +1,12 @@
-ghost use Rattle.std.specs.Prelude.{◌≡◌, ◌≢◌, IfOk, codes};
+ghost use Rattle.std.specs.Prelude.{◌≡◌, IfOk, codes};
 ghost use Rattle.serde_json.specs.View.{view};
-ghost use Rattle.workspace_json.specs.Replies.{alone, command_word, reply_data, refusal_data, text_of_reply, fault_data, text_of_fault, word_of};
+ghost use Rattle.workspace_json.specs.Replies.{alone, check_data, command_word, named_check_data, reply_data, text_of_reply};
 
-use crate::refusal::Refusal;
+use crate::refusing::refusal_value;
 use crate::reply::{Reply, Word};
 use crate::texts::{fault_place, fault_word, place_text};
 use diagram_terms::{Fault, Node, Place, Text};
-use node_json::{Field, FormFault, document_value, nodes_value, numbers_value};
+use node_json::{document_value, nodes_value, numbers_value};
 use serde_json::{Value, json};
 use std::alloc::{AllocError, Global};
 
@@ -59,45 +59,11 @@ fn normal_value(
     })
 }
 
-/// `{"refused":W}`.
-fn refused_value(alloc: Global, word: &str) -> Result<Value, AllocError>
-    ensures { IfOk result (λ value. view value ≡ alone (codes "refused") word.now) }
-{
-    json!(in alloc; {"refused": word})
-}
-
 /// `{"ok":W}`.
 fn done_value(alloc: Global, word: &str) -> Result<Value, AllocError>
     ensures { IfOk result (λ value. view value ≡ alone (codes "ok") word.now) }
 {
     json!(in alloc; {"ok": word})
-}
-
-fn ill_typed_value(alloc: Global, fault: &Fault) -> Result<Value, AllocError>
-    ensures { IfOk result (λ value. view value ≡ refusal_data (Refusal.IllTyped fault.now)) }
-{
-    let at = fault_place(alloc, fault)?;
-    json!(in alloc; {"at": at.as_str(), "fault": fault_word(fault), "refused": "IllTyped"})
-}
-
-fn refusal_value(alloc: Global, refusal: &Refusal) -> Result<Value, AllocError>
-    ensures { IfOk result (λ value. view value ≡ refusal_data refusal.now) }
-{
-    match refusal {
-        Refusal::NameBad => refused_value(alloc, "NameBad"),
-        Refusal::NameTaken => refused_value(alloc, "NameTaken"),
-        Refusal::Unknown { name } => json!(in alloc; {"name": name.as_str(), "refused": "Unknown"}),
-        Refusal::DimDiffers => refused_value(alloc, "DimDiffers"),
-        Refusal::NotParallel => refused_value(alloc, "NotParallel"),
-        Refusal::DimLimit => refused_value(alloc, "DimLimit"),
-        Refusal::CountLimit => refused_value(alloc, "CountLimit"),
-        Refusal::EndsDiffer => refused_value(alloc, "EndsDiffer"),
-        Refusal::NoHeight { step } =>
-            json!(in alloc; {"refused": "NoHeight", "step": *step as u64}),
-        Refusal::IllTyped(fault) => ill_typed_value(alloc, fault),
-        Refusal::NothingToUndo => refused_value(alloc, "NothingToUndo"),
-        Refusal::NothingToRedo => refused_value(alloc, "NothingToRedo"),
-    }
 }
 
 /// The word of a command, as its reply has it.
@@ -107,6 +73,7 @@ fn command_word(word: Word) -> &'static str
     match word {
         Word::Identity => "identity",
         Word::Boundary => "boundary",
+        Word::Take => "take",
         Word::Bring => "bring",
         Word::Compose => "compose",
         Word::Drop => "drop",
@@ -152,6 +119,51 @@ fn stats_value(
     })
 }
 
+fn opened_value(
+    alloc: Global,
+    diagrams: usize,
+    generators: usize,
+    maps: usize,
+) -> Result<Value, AllocError>
+    ensures { IfOk result (λ value. view value
+        ≡ reply_data (Reply.OpenDocument diagrams generators maps)) }
+{
+    json!(in alloc; {
+        "diagrams": diagrams as u64, "generators": generators as u64, "maps": maps as u64,
+        "ok": "open"
+    })
+}
+
+fn check_value(alloc: Global, fault: &Option<Fault>) -> Result<Value, AllocError>
+    ensures { IfOk result (λ value. view value ≡ check_data fault.now) }
+{
+    match fault {
+        None => done_value(alloc, "check"),
+        Some(fault) => {
+            let at = fault_place(alloc, fault)?;
+            json!(in alloc; {"at": at.as_str(), "fault": fault_word(fault), "no": "check"})
+        }
+    }
+}
+
+fn named_check_value(
+    alloc: Global,
+    name: &Text,
+    fault: &Option<Fault>,
+) -> Result<Value, AllocError>
+    ensures { IfOk result (λ value. view value ≡ named_check_data name.now fault.now) }
+{
+    match fault {
+        None => json!(in alloc; {"name": name.as_str(), "ok": "check"}),
+        Some(fault) => {
+            let at = fault_place(alloc, fault)?;
+            json!(in alloc; {
+                "at": at.as_str(), "fault": fault_word(fault), "name": name.as_str(), "no": "check"
+            })
+        }
+    }
+}
+
 fn reply_value(alloc: Global, reply: &Reply) -> Result<Value, AllocError>
     ensures { IfOk result (λ value. view value ≡ reply_data reply.now) }
 {
@@ -162,6 +174,11 @@ fn reply_value(alloc: Global, reply: &Reply) -> Result<Value, AllocError>
             name,
             at,
         } => look_value(alloc, *dim, *length, name, at),
+        Reply::OpenDocument {
+            diagrams,
+            generators,
+            maps,
+        } => opened_value(alloc, *diagrams, *generators, *maps),
         Reply::Generator { dim, name, number } => generator_value(alloc, *dim, name, *number),
         Reply::Stored {
             dim,
@@ -186,6 +203,8 @@ fn reply_value(alloc: Global, reply: &Reply) -> Result<Value, AllocError>
             nodes.as_slice(),
             *source,
         ),
+        Reply::Check { fault } => check_value(alloc, fault),
+        Reply::CheckNamed { name, fault } => named_check_value(alloc, name, fault),
         Reply::Equal { value } => json!(in alloc; {"ok": "equal", "value": *value}),
         Reply::Stats {
             arrows,
@@ -208,61 +227,4 @@ pub fn reply_text(alloc: Global, reply: &Reply) -> Result<Vec<u8>, AllocError>
     ensures { IfOk result (λ text. text.items ≡ text_of_reply reply.now) }
 {
     reply_value(alloc, reply)?.to_vec(alloc)
-}
-
-/// The word of a field, which is its key in a command.
-pub(crate) fn field_word(field: Field) -> &'static str
-    ensures { result.now ≡ word_of field }
-{
-    match field {
-        Field::Document => "document",
-        Field::Format => "format",
-        Field::Nodes => "nodes",
-        Field::Generators => "generators",
-        Field::Diagrams => "diagrams",
-        Field::Maps => "maps",
-        Field::Command => "command",
-        Field::Do => "do",
-        Field::Name => "name",
-        Field::Source => "source",
-        Field::Target => "target",
-        Field::Arrow => "arrow",
-        Field::Of => "of",
-        Field::Side => "side",
-        Field::Path => "path",
-        Field::First => "first",
-        Field::Then => "then",
-        Field::Legs => "legs",
-        Field::One => "one",
-        Field::Two => "two",
-    }
-}
-
-fn fault_value(alloc: Global, fault: &FormFault) -> Result<Value, AllocError>
-    requires { fault.now ≢ FormFault.NoMemory }
-    ensures { IfOk result (λ value. view value ≡ fault_data fault.now) }
-{
-    match *fault {
-        FormFault::NotJson => json!(in alloc; {"refused": "NotJson"}),
-        FormFault::Form { field, entry: None } =>
-            json!(in alloc; {"field": field_word(field), "refused": "Form"}),
-        FormFault::Form {
-            field,
-            entry: Some(entry),
-        } =>
-            json!(in alloc; {"entry": entry as u64, "field": field_word(field), "refused": "Form"}),
-        FormFault::Shape(node) => json!(in alloc; {"node": node as u64, "refused": "Shape"}),
-        FormFault::Early(node) => json!(in alloc; {"node": node as u64, "refused": "Early"}),
-        FormFault::Label(node) => json!(in alloc; {"node": node as u64, "refused": "Label"}),
-        FormFault::NoMemory => unreachable!(),
-    }
-}
-
-/// The line of a form fault, without its newline: one object as compact JSON, with its keys in the order
-/// of their bytes. Want of memory is no fault of the bytes and has no line. The error is want of memory.
-pub fn form_text(alloc: Global, fault: &FormFault) -> Result<Vec<u8>, AllocError>
-    requires { fault.now ≢ FormFault.NoMemory }
-    ensures { IfOk result (λ text. text.items ≡ text_of_fault fault.now) }
-{
-    fault_value(alloc, fault)?.to_vec(alloc)
 }

@@ -5,9 +5,9 @@ use Rattle.serde_json.specs.View.{view}
 use Rattle.node_json.specs.declared.fault.Field.TheVariants as field
 use Rattle.node_json.specs.Reading.{field_fault}
 use Rattle.node_json.specs.Step.{each, or_fault}
-use Rattle.workspace_json.specs.Commands.{heights_of}
+use Rattle.workspace_json.specs.Fields.{heights_of}
 use Rattle.workspace_json.specs.Paths.{height_in}
-use Rattle.workspace_json.proofs.commands.heights_of.Given as goal
+use Rattle.workspace_json.proofs.fields.heights_of.Given as goal
 
 -- the steps that are left give the rest of the answer
 abbrev pub invariant-loop-step : goal.invariant-loop-step
